@@ -1,0 +1,41 @@
+// The limits of document 01 and the answers that all crates share. Each answer's number and second number: specs/Numbers.antt.
+
+pub const MOST_NODES: usize = 256;
+
+pub const MOST_LEVELS: usize = 32;
+
+pub const MOST_TITLE: usize = 1024;
+
+pub const MOST_CELLS: usize = 1048576;
+
+// What a drawing, a graph or a file's drawing answers.
+pub enum Answer {
+    Done(usize),
+    Ragged,
+    Many,
+    None,
+    Depth(usize),
+    Title(usize),
+    Utf8(usize),
+    Large,
+    Canvas(usize),
+    Room(usize),
+    Trailer,
+}
+
+pub struct Drawing {
+    pub answer: Answer,
+    pub width: usize,
+    pub height: usize,
+    pub untitled: usize,
+}
+
+// What the reader of pictures answers.
+pub enum Reading {
+    Done(usize),
+    Utf8,
+    Undrawn,
+    Large,
+    Canvas(usize),
+    Room(usize),
+}
