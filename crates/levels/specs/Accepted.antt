@@ -1,0 +1,22 @@
+-- Refusals 1 to 6 as the code asks for them, and what a table is that none of them meets.
+use mathlib.Core.Path.{_≡_}
+use mathlib.Core.List.{List}
+use mathlib.Core.Bool.{Bool, false, _&&_}
+use Prim.Native.Nat.{ℕ, _*_, _≤_, _<_}
+use lib.ListN.{length}
+use Rattle.rules.specs.Base.{pick}
+use Rattle.rules.specs.Plan.{mostNodes, count, planOf}
+use Rattle.rules.specs.Numbers.{noNode, badDepth, badTitle, badUtf8, afterCount, afterNodes}
+use Rattle.rules.specs.declared.Answer.{Answer}
+
+-- the first of refusals 1 to 6, number 3 only where some node is asked for; Done 0 if there is none
+unfoldable pub checked : Bool → List ℕ → List ℕ → Answer
+checked some T B = afterCount T (pick (some && noNode T) Answer.None (afterNodes T B (Answer.Done 0)))
+
+-- a table of whole nodes, few enough, each with a good depth and a good title
+pub record Accepted (T B : List ℕ) : Type 0 where
+  pub whole : length T ≡ 3 * count T
+  pub few : count T ≤ mostNodes
+  pub depths : (k : ℕ) → k < count T → badDepth (planOf T B) k ≡ false
+  pub titles : (k : ℕ) → k < count T → badTitle T B k ≡ false
+  pub valids : (k : ℕ) → k < count T → badUtf8 (planOf T B) k ≡ false
