@@ -1,1 +1,11 @@
 // The plan table: refusals 1 to 6, rows and columns, and the cells of a row.
+mod place;
+mod titles;
+mod walk;
+
+pub use place::columns;
+pub use titles::title;
+pub use walk::next_cell;
+pub use walk::previous_cell;
+pub use walk::rows;
+pub use walk::untitled;
