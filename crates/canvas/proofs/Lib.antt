@@ -1,1 +1,2 @@
 pub mod EmitRow
+pub mod EmitText

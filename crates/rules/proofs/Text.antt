@@ -5,6 +5,7 @@ use mathlib.Core.List.{List, [], _∷_, _++_}
 use mathlib.Core.Bool.{Bool, true, false}
 use Prim.Native.Nat.{ℕ, suc, zero, _+_, _*_, _≤_, _<_}
 use native.Mathlib.Nat.{suc-mul}
+use native.Mathlib.Numerals.{add-one}
 use native.Mathlib.Decide.{decLe}
 use native.Mathlib.Omega.{arith}
 use lib.Dec.{eqb}
@@ -37,6 +38,16 @@ each-rises f m (suc n) h =
       | yes l ↦ simp length-append (omega (arith, each-rises f m n l))
       | no l ↦ (let e : m ≡ suc n = omega arith in rw e (omega arith))
     ]
+
+-- one more
+pub each-next : {A : Type 0} (f : ℕ → List A) (n : ℕ) → each f (n + 1) ≡ each f n ++ f n
+unfolding each
+each-next f n = rw (add-one n)
+
+-- where all have room, so has the next
+pub each-room : {A : Type 0} (f : ℕ → List A) (n e : ℕ) → n < e → length (each f n) + length (f n) ≤ length (each f e)
+each-room f n e h =
+    omega (arith, each-rises f (n + 1) e (omega arith), ap length (each-next f n), length-append (each f n) (f n))
 
 pub utf8-some : (c : ℕ) → (1 ≤ length (utf8 c)) × (length (utf8 c) ≤ 4)
 utf8-some c =
