@@ -3,3 +3,5 @@ pub mod Runs
 pub mod Marks
 pub mod Lent
 pub mod Lines
+pub mod EmitRow
+pub mod EmitText

@@ -12,3 +12,11 @@ pub use draw::draw_box;
 pub use draw::symbol;
 pub use row::fill;
 pub use row::put;
+// The canvas: the text of finished cells.
+mod emit;
+
+pub use emit::bytes_to;
+pub use emit::text_bytes;
+pub use emit::trimmed;
+pub use emit::write_text;
+pub use emit::write_to;

@@ -1,0 +1,66 @@
+-- A row of cells by itself: where it ends, what its cells take in bytes, and that it is a row of the canvas it is lent from.
+-- The code goes by `n - 1` and `n + 1` where the rules go by `suc`; the rest is `each` one step further.
+use mathlib.Core.Path.{_≡_, refl, ap, sym, _∙_}
+use mathlib.Core.List.{List, [], _∷_, _++_}
+use Prim.Native.Nat.{ℕ, suc, zero, _+_, _-_, _*_, _≤_, _<_}
+use native.Mathlib.Nat.{add-zero}
+use native.Mathlib.Omega.{arith}
+use lib.ListN.{length, getD, take, drop, set, length-append, length-take, length-drop}
+use lib.Seq.{sets, getD-take, getD-drop}
+use Rattle.rules.specs.Base.{each}
+use Rattle.rules.specs.Utf8.{utf8}
+use Rattle.rules.specs.Drawing.{endOf, rowText}
+use Rattle.rules.proofs.Text.{each-next, each-room, each-bound, utf8-some, end-space, end-mark, end-within, row-same}
+use Rattle.canvas.specs.Emit.{cellsOf, rowOf, endIn, bytesTo, rowIn}
+
+module _ (row : List ℕ) (e : ℕ) (some : 0 < e) where
+  pub trim-space : getD row (e - 1) 0 ≡ 0x20 → endOf (rowOf row) 0 e ≡ endOf (rowOf row) 0 (e - 1)
+  unfolding rowOf
+  trim-space h = let s : e ≡ suc (e - 1) = omega arith in ap (endOf (rowOf row) 0) s ∙ end-space (rowOf row) 0 (e - 1) h
+
+  pub trim-mark : (getD row (e - 1) 0 ≡ 0x20 → ⊥) → endOf (rowOf row) 0 e ≡ e
+  unfolding rowOf
+  trim-mark h = let s : e ≡ suc (e - 1) = omega arith in ap (endOf (rowOf row) 0) s ∙ end-mark (rowOf row) 0 (e - 1) h ∙ sym s
+
+-- the row's first n cells, and the next
+module _ (row : List ℕ) (n : ℕ) where
+  pub bytes-next : bytesTo row (n + 1) ≡ bytesTo row n ++ utf8 (getD row n 0)
+  unfolding bytesTo rowOf
+  bytes-next = each-next (λ x. utf8 (getD row x 0)) n
+
+  pub bytes-bound : length (bytesTo row n) ≤ 4 * n
+  unfolding bytesTo rowOf
+  bytes-bound = omega (arith, each-bound (λ x. utf8 (getD row x 0)) n 4 (λ k h. utf8-some (getD row k 0) .1))
+
+  pub bytes-room : (e : ℕ) → n < e → length (bytesTo row n) + length (utf8 (getD row n 0)) ≤ length (bytesTo row e)
+  unfolding bytesTo rowOf
+  bytes-room e h = each-room (λ x. utf8 (getD row x 0)) n e h
+
+pub end-in : (row : List ℕ) → endIn row ≤ length row
+unfolding endIn
+end-in row = end-within (rowOf row) 0 (length row)
+
+pub row-ends : (row : List ℕ) → rowIn row ≡ bytesTo row (endIn row) ++ (0x0A ∷ [])
+unfolding rowIn rowText bytesTo endIn
+row-ends row = refl
+
+-- row y of a canvas, lent as a part of its cells
+module _ (cells : List ℕ) (w y : ℕ) (h : y * w + w ≤ length cells) where
+  pub lent-length : length (take w (drop (y * w) cells)) ≡ w
+  lent-length = simp (length-take, length-drop) (omega arith)
+
+  pub lent-at : (x : ℕ) → x < w → getD (take w (drop (y * w) cells)) x 0 ≡ getD cells (y * w + x) 0
+  lent-at x l = rw (getD-take, getD-drop)
+
+  pub lent-row : rowIn (take w (drop (y * w) cells)) ≡ rowText (cellsOf cells w) w y
+  unfolding rowIn rowOf cellsOf
+  lent-row = rw lent-length (row-same (rowOf (take w (drop (y * w) cells))) (cellsOf cells w) 0 y w lent-at)
+
+-- stored one after the other
+pub sets-append : (l : List ℕ) (at : ℕ) (u v : List ℕ) → sets l at (u ++ v) ≡ sets (sets l at u) (at + length u) v
+sets-append l at [] v = rw (add-zero at)
+sets-append l at (a ∷ u) v = let k : at + suc (length u) ≡ suc at + length u = omega arith in rw k (sets-append (set l at a) (suc at) u v)
+
+-- the same of what two calls left
+pub stored : (l m r : List ℕ) (at to : ℕ) (u v : List ℕ) → to ≡ at + length u → m ≡ sets l at u → r ≡ sets m to v → r ≡ sets l at (u ++ v)
+stored l m r at to u v t e f = f ∙ rw (e, t) (sym (sets-append l at u v))
