@@ -18,6 +18,14 @@ sets-append (x ∷ a) b l at =
     let e : suc at + length a ≡ at + suc (length a) = omega arith in
     sets-append a b (set l at x) (suc at) ∙ rw e
 
+-- a piece and the next
+pub then : {a b : List ℕ} {at : ℕ} {l m n : List ℕ} {p q : ℕ} → Put a at l m p → Put b p m n q → Put (a ++ b) at l n q
+then {a} {b} {at} {l} x y =
+    record {
+      place = omega (arith, x .place, y .place, length-append a b);
+      holds = rw (y .holds, x .holds, x .place, ← sets-append a b l at);
+    }
+
 pub record Left (W : List ℕ) (at : ℕ) (l rest : List ℕ) (to : ℕ) (m : List ℕ) : Type 0 where
   pub same : length m ≡ length l
   pub place : to + length rest ≡ at + length W
@@ -33,11 +41,11 @@ module _ {W : List ℕ} {at : ℕ} {l : List ℕ} where
       → Left W at l rest to m → rest ≡ x ++ more → Put x to m n next → Left W at l more next n
   step {rest} {to} {m} x more {n} {next} h e p =
       let f : length rest ≡ length x + length more = rw e (length-append x more) in
-      let g : length n ≡ length m = rw (p .1) (length-sets m to x) in
+      let g : length n ≡ length m = rw (p .holds) (length-sets m to x) in
       record {
         same = g ∙ h .same;
-        place = omega (arith, h .place, p .0);
-        puts = rw (p .1, p .0, ← sets-append x more m to, ← e) (h .puts);
+        place = omega (arith, h .place, p .place);
+        puts = rw (p .holds, p .place, ← sets-append x more m to, ← e) (h .puts);
       }
 
   -- it fits, as the whole does
@@ -49,7 +57,7 @@ module _ {W : List ℕ} {at : ℕ} {l : List ℕ} where
 
   -- nothing is left
   pub end : {rest : List ℕ} {to : ℕ} {m : List ℕ} → Left W at l rest to m → rest ≡ [] → Put W at l m to
-  end {rest} {to} {m} h e = (let k = rw e at (h .place) in omega arith, rw e at (h .puts))
+  end {rest} {to} {m} h e = record { place = (let k = rw e at (h .place) in omega arith); holds = rw e at (h .puts) }
 
 -- a list put one by one: the next, and what is left after it
 pub one : (s : List ℕ) (i : ℕ) → i < length s → drop i s ≡ (getD s i 0 ∷ []) ++ drop (i + 1) s

@@ -6,5 +6,6 @@ use lib.ListN.{length}
 use lib.Seq.{sets}
 
 -- w was put at `at`: what has no room is dropped, and `next` is the place after it all the same
-abbrev pub Put : List ℕ → ℕ → List ℕ → List ℕ → ℕ → Type 0
-Put w at old new next = (next ≡ at + length w) × (new ≡ sets old at w)
+pub record Put (w : List ℕ) (at : ℕ) (old new : List ℕ) (next : ℕ) : Type 0 where
+  pub place : next ≡ at + length w
+  pub holds : new ≡ sets old at w

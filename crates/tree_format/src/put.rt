@@ -4,9 +4,10 @@ ghost use mathlib.Core.List.{[], _∷_};
 ghost use Prim.Native.Nat.{_+_, _<_, _^_};
 ghost use lib.ListN.{length};
 ghost use Rattle.rules.specs.Base.{concat};
-ghost use Rattle.rules.specs.Graph.{escaped};
+ghost use Rattle.rules.specs.Lines.{digits};
+ghost use Rattle.rules.specs.Graph.{escaped, name as nameOf};
 ghost use Rattle.tree_format.specs.Put.{Put};
-ghost use Rattle.tree_format.specs.Forms.{formOf};
+ghost use Rattle.tree_format.specs.Forms.{formOf, spot};
 
 // Puts b at out[at], if that is there, and answers the next place.
 pub fn byte(out: &mut [u8], at: usize, b: u8) -> usize
@@ -82,4 +83,30 @@ pub fn between(out: &mut [u8], at: usize, fenced: bool) -> usize
         return byte(out, at, 95);
     }
     at
+}
+
+// Puts the digits of n.
+pub fn decimal(out: &mut [u8], at: usize, n: u32) -> usize
+    requires { ⌜ (n < 256) × (at + length (digits n) < 2 ^ 64) ⌝ }
+    ensures { λ r. ⌜ Put (digits n) at (now (out .entry)) (now (out .exit)) r ⌝ }
+{
+    let count = text::digits(n);
+    let mut to = at;
+    let mut i = 0;
+    while i < count {
+        to = byte(out, to, text::digit(n, i));
+        i += 1;
+    }
+    to
+}
+
+// Puts the name of the cell (i, j).
+pub fn name(out: &mut [u8], at: usize, i: u32, j: u32, fenced: bool) -> usize
+    requires { ⌜ (i < 256) × (j < 256) × (at + length (nameOf (formOf fenced) (spot i j)) < 2 ^ 64) ⌝ }
+    ensures { λ r. ⌜ Put (nameOf (formOf fenced) (spot i j)) at (now (out .entry)) (now (out .exit)) r ⌝ }
+{
+    let n = byte(out, at, 110);
+    let a = decimal(out, n, i);
+    let b = between(out, a, fenced);
+    decimal(out, b, j)
 }

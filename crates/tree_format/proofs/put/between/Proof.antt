@@ -21,7 +21,7 @@ returns : tie.Need-returns
 returns c = rw (fenced-between (c .before .before .before .before .before .before .args .fenced) (search needs)) (c .before .before .byte .ensures)
 
 returns-2 : tie.Need-returns-2
-returns-2 c = let s = c .before .before .args in rw (bare-between (s .fenced) (search needs)) (sym (add-zero (s .at)), refl)
+returns-2 c = let s = c .before .before .args in rw (bare-between (s .fenced) (search needs)) (record { place = sym (add-zero (s .at)); holds = refl })
 
 pub between-spec : {M : Type 1} → statement M
 between-spec = tie.close (tie.spec byte-requires same-length returns returns-2)

@@ -21,7 +21,9 @@ add-result-2 : tie.Need-add-result-2
 add-result-2 c = search needs
 
 returns-2 : tie.Need-returns-2
-returns-2 c = let s = c .before in (refl, sym (set-out (s .args .out .now) (s .args .at) (s .args .b) (search needs)))
+returns-2 c =
+    let s = c .before .args in
+    record { place = refl; holds = sym (set-out (s .out .now) (s .at) (s .b) (search needs)) }
 
 pub byte-spec : {M : Type 1} → statement M
 byte-spec =
