@@ -1,0 +1,15 @@
+-- The two forms of a graph by a Bool, as the code tells them apart, and a cell where only its place counts.
+use mathlib.Core.Bool.{Bool, true, false}
+use mathlib.Core.List.{[]}
+use Prim.Native.Nat.{ℕ}
+use Rattle.rules.specs.Levels.{Cell}
+use Rattle.rules.specs.Graph.{Form, bare, fenced}
+
+-- the fenced form, or 000's
+abbrev pub formOf : Bool → Form
+formOf true = fenced
+formOf false = bare
+
+-- the cell (i, j), for its name
+abbrev pub spot : ℕ → ℕ → Cell
+spot i j = record { row = i; column = j; title = [] }
