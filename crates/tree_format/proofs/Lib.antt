@@ -1,3 +1,4 @@
 pub mod Puts
 pub mod Escapes
 pub mod Names
+pub mod Drawn
