@@ -4,3 +4,4 @@ pub mod Plans
 pub mod Empties
 pub mod Accepted
 pub mod Runs
+pub mod Tests

@@ -1,5 +1,6 @@
 // The plan table: refusals 1 to 6, rows and columns, and the cells of a row.
 mod place;
+mod refuse;
 mod titles;
 mod walk;
 
