@@ -1,0 +1,5 @@
+pub mod Sizes
+pub mod Laid
+pub mod Nodes
+pub mod Ruled
+pub mod Limits
