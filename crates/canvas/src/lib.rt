@@ -1,5 +1,6 @@
-// Symbols, lines, boxes and labels on lent cells.
+// Symbols, lines, boxes and labels on lent cells, and the text of finished cells.
 mod draw;
+mod emit;
 mod glyphs;
 mod row;
 
@@ -11,14 +12,11 @@ pub use draw::draw_axis;
 pub use draw::draw_box;
 pub use draw::index;
 pub use draw::symbol;
-pub use row::figures;
-pub use row::fill;
-pub use row::put;
-// The canvas: the text of finished cells.
-mod emit;
-
 pub use emit::bytes_to;
 pub use emit::text_bytes;
 pub use emit::trimmed;
 pub use emit::write_text;
 pub use emit::write_to;
+pub use row::figures;
+pub use row::fill;
+pub use row::put;
