@@ -1,8 +1,6 @@
 -- `text::utf8::decode` meets its contract: the leading ones tell the range of the first byte, and valid bytes have all that follow it.
-use mathlib.Core.Path.{_≡_, sym, _∙_}
 use native.Mathlib.Omega.{arith}
-use lib.ListN.{getD}
-use Rattle.text.proofs.FirstBytes.{Begun, begun}
+use Rattle.text.proofs.FirstBytes.{begun}
 use borrow.Author.Needs.{needs}
 use Rattle.text.proofs.utf8.decode.Statement.{statement}
 use Rattle.text.proofs.utf8.decode.Tie as tie

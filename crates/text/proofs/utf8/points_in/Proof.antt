@@ -1,12 +1,12 @@
 -- `text::utf8::points_in` meets its contract: the code points counted and those of what is left, which is valid, are all.
-use mathlib.Core.Path.{_≡_, refl, ap, sym, _∙_}
+use mathlib.Core.Path.{_≡_, ap}
 use mathlib.Core.Bool.{true}
 use mathlib.Core.List.{List, []}
 use Prim.Native.Nat.{ℕ, _≤_, _-_, _+_}
 use native.Mathlib.Omega.{arith}
-use lib.ListN.{length, take, drop, getD, length-drop}
+use lib.ListN.{length, drop, length-drop}
 use lib.Seq.{drop-length}
-use Rattle.rules.specs.Utf8.{valid, points, more}
+use Rattle.rules.specs.Utf8.{valid, points}
 use Rattle.rules.proofs.FirstChar.{lent-rest, lent-char}
 use borrow.Author.Needs.{needs}
 use Rattle.text.proofs.utf8.points_in.Statement.{statement}
