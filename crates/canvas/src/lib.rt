@@ -1,6 +1,7 @@
 // Symbols, lines, boxes and labels on lent cells.
 mod draw;
 mod glyphs;
+mod label;
 mod row;
 
 pub use draw::Size;
@@ -11,6 +12,8 @@ pub use draw::draw_axis;
 pub use draw::draw_box;
 pub use draw::index;
 pub use draw::symbol;
+pub use label::draw_label_centered;
 pub use row::figures;
 pub use row::fill;
+pub use row::letters;
 pub use row::put;
