@@ -5,3 +5,4 @@ pub mod Lent
 pub mod Lines
 pub mod EmitRow
 pub mod EmitText
+pub mod Titles

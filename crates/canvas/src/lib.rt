@@ -2,6 +2,7 @@
 mod draw;
 mod emit;
 mod glyphs;
+mod label;
 mod row;
 
 pub use draw::Size;
@@ -17,6 +18,8 @@ pub use emit::text_bytes;
 pub use emit::trimmed;
 pub use emit::write_text;
 pub use emit::write_to;
+pub use label::draw_label_centered;
 pub use row::figures;
 pub use row::fill;
+pub use row::letters;
 pub use row::put;

@@ -1,8 +1,10 @@
 // One row of the canvas: what lies beyond its end is dropped.
 ghost use mathlib.Core.Path.{_≡_};
+ghost use mathlib.Core.Bool.{true};
 ghost use Prim.Native.Nat.{_+_, _-_, _≤_, _<_, min, max};
 ghost use lib.ListN.{length, set, replicate};
 ghost use lib.Seq.{sets};
+ghost use Rattle.rules.specs.Utf8.{valid, points};
 ghost use Rattle.rules.specs.Lines.{digits};
 
 // Where n marks from a on stop, in a row that ends at `end`.
@@ -37,6 +39,24 @@ pub fn put(row: &mut [u32], x: usize, mark: u32)
     if x < row.len() {
         row[x] = mark;
         return;
+    }
+}
+
+// Puts the code points of a valid line from x on.
+pub fn letters(row: &mut [u32], x: usize, line: &[u8])
+    requires { ⌜ valid (now line) ≡ true ⌝ }
+    ensures { λ _. ⌜ now (row .exit) ≡ sets (now (row .entry)) x (points (now (line .entry))) ⌝ }
+{
+    let mut at = 0;
+    let mut k = x;
+    while at < line.len() {
+        if row.len() <= k {
+            return;
+        }
+        let p = text::decode(&line[at..]);
+        row[k] = p.value;
+        at += p.size;
+        k += 1;
     }
 }
 
