@@ -3,3 +3,5 @@ pub mod Laid
 pub mod Nodes
 pub mod Ruled
 pub mod Limits
+pub mod Table
+pub mod Boxes

@@ -1,6 +1,6 @@
 -- Inside the limits every size, offset and centre is small enough to be added up, and each box lies right of its column's offset, below its
 -- row's, and on the canvas: a column is at least 6 wider, a row 2 higher, than the largest title in it.
-use mathlib.Core.Path.{_≡_, refl, sym, ap, _∙_}
+use mathlib.Core.Path.{_≡_, refl, ap}
 use mathlib.Core.List.{List}
 use mathlib.Core.Bool.{Bool, true, false}
 use mathlib.Core.Logic.{⊎-elim}
@@ -18,9 +18,9 @@ use Rattle.rules.specs.Measures.{d, height, rowOffset, rowCentre, canvasHeight,
 use Rattle.rules.specs.Drawing.{bendRow}
 use Rattle.rules.proofs.Columns.{offset-total, offset-after}
 use Rattle.rules.proofs.Digits.{digits-some}
-use Rattle.rules.proofs.Bounds.{Small, digits-two, rows-some, rows-few, columns-few, column-below, row-below}
+use Rattle.rules.proofs.Bounds.{Small, digits-two, rows-few, columns-few, column-below, row-below}
 use Rattle.tree_view.specs.Measured.{linesAt, longestAt}
-use Rattle.tree_view.specs.Box.{leftOf, topOf, rightOf, bottomOf}
+use Rattle.tree_view.specs.Box.{rightOf, bottomOf}
 use Rattle.tree_view.specs.Sizes.{most}
 use Rattle.tree_view.proofs.Sizes.{most-le, most-ge, after-le}
 use Rattle.tree_view.proofs.Nodes.{width-most, height-most, longest-at-le, lines-at-le}

@@ -1,7 +1,7 @@
 -- The rules take the greatest over the cells of a column or a row, the code the greatest over the nodes with that key: the same, since a
 -- node without a cell asks for nothing. And how much a node inside the limits asks for.
-use mathlib.Core.Path.{_≡_, refl, sym, ap, _∙_}
-use mathlib.Core.List.{List, [], _∷_, _++_, append-assoc}
+use mathlib.Core.Path.{_≡_, refl, ap}
+use mathlib.Core.List.{List, [], _∷_, _++_}
 use mathlib.Core.Bool.{Bool, true, false}
 use Prim.Native.Nat.{ℕ, suc, zero, _+_, _≤_, _<_, max}
 use native.Mathlib.Omega.{arith}
@@ -11,19 +11,10 @@ use Rattle.rules.specs.Base.{pick, keep, greatest, each}
 use Rattle.rules.specs.Plan.{Node, nodeAt, depthAt}
 use Rattle.rules.specs.Levels.{Cell, shown, columnAt, cellAt, view, inRow, inColumn}
 use Rattle.rules.specs.Measures.{lineCount, longest, height, width}
+use Rattle.rules.proofs.Keeps.{keep-append}
 use Rattle.rules.proofs.Bounds.{Small, lines-of}
 use Rattle.tree_view.specs.Measured.{linesAt, longestAt}
 use Rattle.tree_view.specs.Sizes.{most}
-
-kept : {A : Type 0} (s : Bool) (a : A) (k l m : List A) → k ≡ l ++ m → pick s (a ∷ k) k ≡ pick s (a ∷ l) l ++ m
-unfolding pick
-kept true a k l m e = ap (λ k. a ∷ k) e
-kept false a k l m e = e
-
-keep-append : {A : Type 0} (t : A → Bool) (l m : List A) → keep t (l ++ m) ≡ keep t l ++ keep t m
-unfolding keep
-keep-append t [] m = refl
-keep-append t (a ∷ l) m = kept (t a) a (keep t (l ++ m)) (keep t l) (keep t m) (keep-append t l m)
 
 greatest-append : {A : Type 0} (f : A → ℕ) (l m : List A) → greatest f (l ++ m) ≡ max (greatest f l) (greatest f m)
 unfolding greatest

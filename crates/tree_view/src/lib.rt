@@ -1,6 +1,8 @@
 // Rows, columns, boxes and the canvas' size.
 mod cell;
 mod heights;
+mod lines;
+mod size;
 mod widths;
 
 pub use cell::Frame;
@@ -12,6 +14,10 @@ pub use heights::Rows;
 pub use heights::canvas_height;
 pub use heights::row_centers;
 pub use heights::tree_rows;
+pub use lines::measures;
+pub use size::area;
+pub use size::index_digits;
+pub use size::large;
 pub use widths::Columns;
 pub use widths::canvas_width;
 pub use widths::column_centers;
