@@ -48,18 +48,34 @@ more-bits c (suc zero) b l h = omega arith
 more-bits c (suc (suc zero)) b l h = omega arith
 more-bits c (suc (suc (suc n))) b l h = absurd (omega arith)
 
-pub more-few : (b : ℕ) → more b < 4
+-- how many bytes follow a first byte, by its range
+pub more-00 : (a : ℕ) → a < 0x80 → more a ≡ 0
 unfolding more pick
+more-00 a h = rw (lt-ltb a 0x80 h)
+
+pub more-80 : (a : ℕ) → 0x80 ≤ a → a < 0xE0 → more a ≡ 1
+unfolding more pick
+more-80 a h k = rw (le-ltb a 0x80 h, lt-ltb a 0xE0 k)
+
+pub more-E0 : (a : ℕ) → 0xE0 ≤ a → a < 0xF0 → more a ≡ 2
+unfolding more pick
+more-E0 a h k = rw (le-ltb a 0x80 (omega arith), le-ltb a 0xE0 h, lt-ltb a 0xF0 k)
+
+pub more-F0 : (a : ℕ) → 0xF0 ≤ a → more a ≡ 3
+unfolding more pick
+more-F0 a h = rw (le-ltb a 0x80 (omega arith), le-ltb a 0xE0 (omega arith), le-ltb a 0xF0 h)
+
+pub more-few : (b : ℕ) → more b < 4
 more-few b =
     elim (decLe (suc b) 0x80) [
-      | yes h ↦ rw (lt-ltb b 0x80 h) (omega arith)
+      | yes h ↦ omega (arith, more-00 b h)
       | no h ↦
           elim (decLe (suc b) 0xE0) [
-            | yes k ↦ rw (le-ltb b 0x80 (omega arith), lt-ltb b 0xE0 k) (omega arith)
+            | yes k ↦ omega (arith, more-80 b (omega arith) k)
             | no k ↦
                 elim (decLe (suc b) 0xF0) [
-                  | yes l ↦ rw (le-ltb b 0x80 (omega arith), le-ltb b 0xE0 (omega arith), lt-ltb b 0xF0 l) (omega arith)
-                  | no l ↦ rw (le-ltb b 0x80 (omega arith), le-ltb b 0xE0 (omega arith), le-ltb b 0xF0 (omega arith)) (omega arith)
+                  | yes l ↦ omega (arith, more-E0 b (omega arith) l)
+                  | no l ↦ omega (arith, more-F0 b (omega arith))
                 ]
           ]
     ]
@@ -147,14 +163,13 @@ utf8-high k h = go (form k)
 
 -- the first byte tells how many follow
 pub more-utf8 : (k : ℕ) (r : List ℕ) → k < 0x200000 → more (getD (utf8 k ++ r) 0 0) + 1 ≡ length (utf8 k)
-unfolding more pick
 more-utf8 k r h = go (form k)
   where
     go : Form k → more (getD (utf8 k ++ r) 0 0) + 1 ≡ length (utf8 k)
-    go (one a q) = rw (q, lt-ltb k 0x80 a)
-    go (two a b q) = rw (q, le-ltb (0xC0 + k / 64) 0x80 (omega arith), lt-ltb (0xC0 + k / 64) 0xE0 (omega arith))
-    go (three a b q) = rw (q, le-ltb (0xE0 + k / 4096) 0x80 (omega arith), le-ltb (0xE0 + k / 4096) 0xE0 (omega arith), lt-ltb (0xE0 + k / 4096) 0xF0 (omega arith))
-    go (four a q) = rw (q, le-ltb (0xF0 + k / 262144) 0x80 (omega arith), le-ltb (0xF0 + k / 262144) 0xE0 (omega arith), le-ltb (0xF0 + k / 262144) 0xF0 (omega arith))
+    go (one a q) = rw (q, more-00 k a)
+    go (two a b q) = rw (q, more-80 (0xC0 + k / 64) (omega arith) (omega arith))
+    go (three a b q) = rw (q, more-E0 (0xE0 + k / 4096) (omega arith) (omega arith))
+    go (four a q) = rw (q, more-F0 (0xF0 + k / 262144) (omega arith))
 
 pub utf8-size : (k : ℕ) → (1 ≤ length (utf8 k)) × (length (utf8 k) ≤ 4)
 utf8-size k = go (form k)

@@ -6,10 +6,9 @@ use Prim.Native.Nat.{ℕ, suc, zero, _+_, _*_, _%_, _≤_, _<_}
 use native.Mathlib.Decide.{decLe}
 use native.Mathlib.Omega.{arith}
 use lib.ListN.{length, getD}
-use borrow.Author.Tests.{lt-ltb, le-ltb}
-use Rattle.rules.specs.Base.{pick}
 use Rattle.rules.specs.Utf8.{points, more, valid}
 use Rattle.rules.proofs.Chars.{points-one, points-two, points-three, points-four}
+use Rattle.rules.proofs.Codec.{more-00, more-80, more-E0, more-F0}
 use Rattle.rules.proofs.FirstChar.{first-char}
 use Rattle.text.specs.Ones.{ones}
 use Rattle.text.proofs.Ones.{Between, range}
@@ -17,22 +16,6 @@ use Rattle.text.proofs.Ones.{Between, range}
 -- v is the first code point of s, and n the number of its bytes
 abbrev pub Read : List ℕ → ℕ → ℕ → Type 0
 Read s v n = (v ≡ getD (points s) 0 0) × (n ≡ more (getD s 0 0) + 1)
-
-pub more-00 : (a : ℕ) → a < 0x80 → more a ≡ 0
-unfolding more pick
-more-00 a h = rw (lt-ltb a 0x80 h)
-
-pub more-80 : (a : ℕ) → 0x80 ≤ a → a < 0xE0 → more a ≡ 1
-unfolding more pick
-more-80 a h k = rw (le-ltb a 0x80 h, lt-ltb a 0xE0 k)
-
-pub more-E0 : (a : ℕ) → 0xE0 ≤ a → a < 0xF0 → more a ≡ 2
-unfolding more pick
-more-E0 a h k = rw (le-ltb a 0x80 (omega arith), le-ltb a 0xE0 h, lt-ltb a 0xF0 k)
-
-pub more-F0 : (a : ℕ) → 0xF0 ≤ a → more a ≡ 3
-unfolding more pick
-more-F0 a h = rw (le-ltb a 0x80 (omega arith), le-ltb a 0xE0 (omega arith), le-ltb a 0xF0 h)
 
 pub read-one : (s : List ℕ) → 0 < length s → getD s 0 0 < 0x80 → Read s (getD s 0 0) 1
 read-one [] l h = absurd (omega arith)

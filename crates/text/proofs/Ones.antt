@@ -1,48 +1,37 @@
 -- Leading zeros of the complemented byte are the byte's leading ones: one test that is computed for all 256 bytes. A second
 -- such test gives the bytes that a number of leading ones stands for.
 use mathlib.Core.Path.{_≡_, refl}
-use mathlib.Core.Bool.{Bool, true, false}
+use mathlib.Core.Bool.{Bool, true, _&&_}
 use mathlib.Core.List.{[], _∷_}
 use mathlib.Core.Logic.{⊎-elim}
 use Prim.Native.Nat.{ℕ, zero, suc, _-_, _≤_, _<_}
 use native.Mathlib.Nat.{eq-or-lt-of-le}
 use native.Mathlib.Omega.{arith}
-use lib.Dec.{T, ltb, leb, eqb, eqb→eq, leb→le, ltb→lt}
+use lib.Dec.{ltb, leb, eqb}
 use lib.Count.{leadingZeros}
+use borrow.Author.Tests.{ltb-true, leb-true, eqb-true}
 use Rattle.rules.specs.Base.{pick}
 use Rattle.rules.specs.Utf8.{following, never}
-use Rattle.rules.proofs.CharsBack.{following-80, following-F5}
+use Rattle.rules.proofs.CharsBack.{both, following-80, following-F5}
 use Rattle.text.specs.Ones.{ones}
-
-abbrev both : Bool → Bool → Bool
-both true b = b
-both false b = false
-
-both-left : (a b : Bool) → T (both a b) → T a
-both-left true b t = tt
-both-left false b t = t
-
-both-right : (a b : Bool) → T (both a b) → T b
-both-right true b t = t
-both-right false b t = absurd t
 
 -- the test f passes at each number below n
 abbrev pub all : (ℕ → Bool) → ℕ → Bool
 all f zero = true
-all f (suc n) = both (f n) (all f n)
+all f (suc n) = f n && all f n
 
-pub at : (f : ℕ → Bool) (n : ℕ) → T (all f n) → (k : ℕ) → k < n → T (f k)
+pub at : (f : ℕ → Bool) (n : ℕ) → all f n ≡ true → (k : ℕ) → k < n → f k ≡ true
 at f zero t k h = absurd (omega arith)
 at f (suc n) t k h =
-    ⊎-elim (λ (e : k ≡ n). rw e (both-left (f n) (all f n) t)) (λ (l : k < n). at f n (both-right (f n) (all f n) t) k l)
-    (eq-or-lt-of-le (omega arith))
+    let s = both (f n) (all f n) t in
+    ⊎-elim (λ (e : k ≡ n). rw e (s .0)) (λ (l : k < n). at f n (s .1) k l) (eq-or-lt-of-le (omega arith))
 
 right : ℕ → Bool
 right b = eqb (leadingZeros 8 (255 - b)) (ones b)
 
 pub leading : (b : ℕ) → b < 256 → leadingZeros 8 (255 - b) ≡ ones b
 unfolding leadingZeros ones pick right
-leading b h = eqb→eq (leadingZeros 8 (255 - b)) (ones b) (at right 256 tt b h)
+leading b h = eqb-true (leadingZeros 8 (255 - b)) (ones b) (at right 256 refl b h)
 
 -- the least byte with n leading ones, and the least with more; more than four are not told apart
 abbrev pub from : ℕ → ℕ
@@ -65,14 +54,13 @@ abbrev pub Between : ℕ → ℕ → Type 0
 Between b n = (from n ≤ b) × (b < to n)
 
 between : ℕ → Bool
-between b = both (leb (from (ones b)) b) (ltb b (to (ones b)))
+between b = leb (from (ones b)) b && ltb b (to (ones b))
 
 pub range : (b : ℕ) → b < 256 → Between b (ones b)
 range b h =
-    let t : T (both (leb (from (ones b)) b) (ltb b (to (ones b)))) = unfold between ones pick in at between 256 tt b h in
-    let l = leb (from (ones b)) b in
-    let r = ltb b (to (ones b)) in
-    (leb→le (from (ones b)) b (both-left l r t), ltb→lt b (to (ones b)) (both-right l r t))
+    let t : (leb (from (ones b)) b && ltb b (to (ones b))) ≡ true = unfold between ones pick in at between 256 refl b h in
+    let s = both (leb (from (ones b)) b) (ltb b (to (ones b))) t in
+    (leb-true (from (ones b)) b (s .0), ltb-true b (to (ones b)) (s .1))
 
 -- no sequence begins with a byte of one leading one, or of five and more
 pub no-lead : (b n : ℕ) → Between b n → (n ≡ 0 → ⊥) → (n ≡ 2 → ⊥) → (n ≡ 3 → ⊥) → (n ≡ 4 → ⊥) → following b ≡ never ∷ []
