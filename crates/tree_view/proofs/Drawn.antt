@@ -1,6 +1,6 @@
 -- The drawn children of a cell, asked for one at a time: each answer is the column of the first cell that is left, or that none is left.
 -- The cells that are left are those of the nodes from `at` on, so it is the table's next cell.
-use mathlib.Core.Path.{_≡_, ap, _∙_}
+use mathlib.Core.Path.{_≡_, _∙_}
 use mathlib.Core.List.{List, [], _∷_}
 use Prim.Native.Nat.{ℕ, _+_, _≤_, _<_}
 use native.Mathlib.Omega.{arith}

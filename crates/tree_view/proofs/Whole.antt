@@ -1,6 +1,6 @@
 -- A drawing's calls in a row: what each function of this crate requires, and what it then answers by the rules, for an accepted table and
 -- the arrays that were filled from it. Every fact is one of the laws beside this file, at those arrays.
-use mathlib.Core.Path.{_≡_, refl, sym, ap, _∙_}
+use mathlib.Core.Path.{_≡_, sym, _∙_}
 use mathlib.Core.List.{List, []}
 use Prim.Native.Nat.{ℕ, _+_, _-_, _^_, _≤_, _<_}
 use native.Mathlib.Omega.{arith}
@@ -21,7 +21,7 @@ use Rattle.tree_view.specs.Sizes.{Wide, High, columnsIn, rowsIn, sumAt, 
 use Rattle.tree_view.specs.Ruled.{ruledColumns, ruledRows}
 use Rattle.tree_view.proofs.Laid.{at-whole}
 use Rattle.tree_view.proofs.Ruled.{view-columns, view-rows, columns-ruled, rows-ruled, middles-ruled, column-width-at, columns-end, cx-at, cx-ruled, rows-end, cy-at, cy-ruled}
-use Rattle.tree_view.proofs.Limits.{width-ge, d-le, columns-le, rows-le, cx-le, cy-le, canvas-width-le, canvas-height-le}
+use Rattle.tree_view.proofs.Limits.{width-ge, columns-le, rows-le, cx-le, cy-le, canvas-width-le, canvas-height-le}
 use Rattle.tree_view.proofs.Table.{small, column-at, size-at, wide, high}
 
 module _ {T B : List ℕ} (a : Accepted T B) (nodes : ℕ) (all : nodes ≡ count T) where
