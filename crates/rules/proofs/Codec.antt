@@ -1,16 +1,13 @@
 -- Code points written as UTF-8 and read again: one by one (Chars.antt), so all of them. Code points that are read are below
 -- 0x200000, whatever the bytes, since four bytes hold 21 bits; and there are no more of them than bytes.
 use mathlib.Core.Path.{_≡_, refl, ap, sym, _∙_}
-use mathlib.Core.List.{List, [], _∷_, _++_, append-assoc, append-nil, map, List·Memᴰ, List·Memᴰ·cases-cons, List·Memᴰ·append-cases, List·Memᴰ·eq-of-singleton, List·Memᴰ·head, List·Memᴰ·tail, List·Memᴰ·not-nil}
-use mathlib.Core.Bool.{Bool, true, false, _&&_, _||_, not}
-use mathlib.Core.Logic.{⊎-elim, _⊎_, inl, inr}
-use Prim.Native.Nat.{ℕ, suc, zero, _+_, _*_, _-_, _/_, _%_, _≤_, _<_, max}
-use native.Mathlib.Nat.{not-suc-le-zero}
-use native.Mathlib.Decide.{decLe, ℕ-discrete}
+use mathlib.Core.List.{List, [], _∷_, _++_, List·Memᴰ, List·Memᴰ·cases-cons, List·Memᴰ·eq-of-singleton, List·Memᴰ·head, List·Memᴰ·tail, List·Memᴰ·not-nil}
+use mathlib.Core.Logic.{⊎-elim}
+use Prim.Native.Nat.{ℕ, suc, zero, _+_, _*_, _/_, _%_, _≤_, _<_}
+use native.Mathlib.Decide.{decLe}
 use native.Mathlib.Omega.{arith}
 use lib.ListN.{length, getD}
-use lib.Dec.{eqb, leb, ltb}
-use borrow.Author.Tests.{eq-eqb, ne-eqb, eqb-true, lt-ltb, le-ltb, le-leb, lt-leb}
+use borrow.Author.Tests.{lt-ltb, le-ltb}
 use Rattle.rules.specs.Base.{pick, concat}
 use Rattle.rules.specs.Utf8.{points, utf8, pointsFrom, firstBits, more}
 use Rattle.rules.proofs.Chars.{points-utf8}
@@ -158,3 +155,12 @@ more-utf8 k r h = go (form k)
     go (two a b q) = rw (q, le-ltb (0xC0 + k / 64) 0x80 (omega arith), lt-ltb (0xC0 + k / 64) 0xE0 (omega arith))
     go (three a b q) = rw (q, le-ltb (0xE0 + k / 4096) 0x80 (omega arith), le-ltb (0xE0 + k / 4096) 0xE0 (omega arith), lt-ltb (0xE0 + k / 4096) 0xF0 (omega arith))
     go (four a q) = rw (q, le-ltb (0xF0 + k / 262144) 0x80 (omega arith), le-ltb (0xF0 + k / 262144) 0xE0 (omega arith), le-ltb (0xF0 + k / 262144) 0xF0 (omega arith))
+
+pub utf8-size : (k : ℕ) → (1 ≤ length (utf8 k)) × (length (utf8 k) ≤ 4)
+utf8-size k = go (form k)
+  where
+    go : Form k → (1 ≤ length (utf8 k)) × (length (utf8 k) ≤ 4)
+    go (one a q) = rw q (omega arith)
+    go (two a b q) = rw q (omega arith)
+    go (three a b q) = rw q (omega arith)
+    go (four a q) = rw q (omega arith)
