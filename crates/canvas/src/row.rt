@@ -42,8 +42,23 @@ pub fn put(row: &mut [u32], x: usize, mark: u32)
     }
 }
 
-// Puts the code points of a valid line from x on.
-pub fn letters(row: &mut [u32], x: usize, line: &[u8])
+// Puts the code points of a valid line from x on, where all have room: no test for each.
+fn letters_fitting(row: &mut [u32], x: usize, line: &[u8])
+    requires { ⌜ (valid (now line) ≡ true) × (x + length (now line) ≤ length (now row)) ⌝ }
+    ensures { λ _. ⌜ now (row .exit) ≡ sets (now (row .entry)) x (points (now (line .entry))) ⌝ }
+{
+    let mut at = 0;
+    let mut k = x;
+    while at < line.len() {
+        let p = text::decode(&line[at..]);
+        row[k] = p.value;
+        at += p.size;
+        k += 1;
+    }
+}
+
+// The same, where some may lie beyond the end.
+fn letters_clipped(row: &mut [u32], x: usize, line: &[u8])
     requires { ⌜ valid (now line) ≡ true ⌝ }
     ensures { λ _. ⌜ now (row .exit) ≡ sets (now (row .entry)) x (points (now (line .entry))) ⌝ }
 {
@@ -58,6 +73,20 @@ pub fn letters(row: &mut [u32], x: usize, line: &[u8])
         at += p.size;
         k += 1;
     }
+}
+
+// Puts the code points of a valid line from x on.
+pub fn letters(row: &mut [u32], x: usize, line: &[u8])
+    requires { ⌜ valid (now line) ≡ true ⌝ }
+    ensures { λ _. ⌜ now (row .exit) ≡ sets (now (row .entry)) x (points (now (line .entry))) ⌝ }
+{
+    if x <= row.len() {
+        if line.len() <= row.len() - x {
+            letters_fitting(row, x, line);
+            return;
+        }
+    }
+    letters_clipped(row, x, line);
 }
 
 // The mark of an ASCII byte.

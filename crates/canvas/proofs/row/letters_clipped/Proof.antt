@@ -9,8 +9,8 @@ use Rattle.rules.specs.Utf8.{valid, points}
 use Rattle.rules.proofs.FirstChar.{lent-rest, lent-char}
 use Rattle.canvas.proofs.Runs.{mark-stored, row-ended, marks-ended}
 use borrow.Author.Needs.{needs}
-use Rattle.canvas.proofs.row.letters.Statement.{statement}
-use Rattle.canvas.proofs.row.letters.Tie as tie
+use Rattle.canvas.proofs.row.letters_clipped.Statement.{statement}
+use Rattle.canvas.proofs.row.letters_clipped.Tie as tie
 
 abbrev Inv-loop : tie.InvT-loop
 Inv-loop row₀ x line at₀ k₀ row at k =
@@ -95,8 +95,8 @@ returns-2 c =
     marks-ended (a .row .now) (l .row) (a .x) (l .k) (points (a .line .now)) (points (drop (l .at) (a .line .now))) (l .inv .3)
     (ap points (drop-of-length-le (a .line .now) {i = l .at} (omega arith)))
 
-pub letters-spec : {M : Type 1} → statement M
-letters-spec =
+pub letters-clipped-spec : {M : Type 1} → statement M
+letters-clipped-spec =
     tie.close
     (tie.spec
     Inv-loop
