@@ -12,7 +12,7 @@ use Rattle.rules.specs.Base.{each}
 use Rattle.rules.specs.Utf8.{utf8}
 use Rattle.rules.specs.Drawing.{endOf, rowText}
 use Rattle.rules.proofs.Chars.{utf8-one, utf8-two, utf8-three, utf8-four}
-use Rattle.rules.proofs.Text.{each-next, each-room, each-bound, utf8-some, end-space, end-mark, end-within, row-same}
+use Rattle.rules.proofs.Text.{each-next, each-bound, utf8-some, end-space, end-mark, end-within, row-same}
 use Rattle.canvas.specs.Emit.{cellsOf, rowOf, fourAt, Same, Over, endIn, bytesTo, rowIn}
 use Rattle.canvas.specs.declared.emit.Four.{Four}
 
@@ -68,10 +68,6 @@ module _ (row : List ℕ) (n : ℕ) where
   pub bytes-bound : length (bytesTo row n) ≤ 4 * n
   unfolding bytesTo rowOf
   bytes-bound = omega (arith, each-bound (λ x. utf8 (getD row x 0)) n 4 (λ k h. utf8-some (getD row k 0) .1))
-
-  pub bytes-room : (e : ℕ) → n < e → length (bytesTo row n) + length (utf8 (getD row n 0)) ≤ length (bytesTo row e)
-  unfolding bytesTo rowOf
-  bytes-room e h = each-room (λ x. utf8 (getD row x 0)) n e h
 
 pub end-in : (row : List ℕ) → endIn row ≤ length row
 unfolding endIn

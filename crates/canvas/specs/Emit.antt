@@ -1,6 +1,6 @@
 -- Cells in memory as a canvas: words for contracts, no rule.
 use mathlib.Core.Path.{_≡_}
-use mathlib.Core.List.{List}
+use mathlib.Core.List.{List, [], _∷_}
 use Prim.Native.Nat.{ℕ, _+_, _*_, _<_, _≤_}
 use lib.ListN.{length, getD}
 use Rattle.rules.specs.Base.{each}
@@ -23,6 +23,10 @@ endIn row = endOf (rowOf row) 0 (length row)
 -- the bytes of its first n cells
 unfoldable pub bytesTo : List ℕ → ℕ → List ℕ
 bytesTo row n = each (λ x. utf8 (rowOf row x 0)) n
+
+-- the bytes of its n cells from x on
+unfoldable pub bytesIn : List ℕ → ℕ → ℕ → List ℕ
+bytesIn row x n = each (λ k. utf8 (rowOf row (x + k) 0)) n
 
 -- its text
 unfoldable pub rowIn : List ℕ → List ℕ
@@ -51,3 +55,11 @@ pub record Over (v w r : ℕ) : Type 0 where
   pub most : r ≤ 1
   pub below : v < w → r ≡ 0
   pub from : w ≤ v → r ≡ 1
+
+-- four cells as they are
+abbrev pub cellsIn : Four → List ℕ
+cellsIn f = f .a ∷ f .b ∷ f .c ∷ f .d ∷ []
+
+-- the bytes of n marks ─
+unfoldable pub lineOf : ℕ → List ℕ
+lineOf n = each (λ k. utf8 0x2500) n

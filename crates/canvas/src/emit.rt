@@ -1,13 +1,14 @@
 // Cells as text.
 ghost use mathlib.Core.Path.{_≡_};
 ghost use mathlib.Core.Bool.{true};
+ghost use mathlib.Core.List.{_++_};
 ghost use Prim.Native.Nat.{ℕ, _+_, _*_, _<_, _≤_};
 ghost use lib.ListN.{length, getD};
 ghost use lib.Seq.{sets};
 ghost use Rattle.rules.specs.Base.{laid};
 ghost use Rattle.rules.specs.Utf8.{utf8};
 ghost use Rattle.rules.specs.Drawing.{endOf, textOf};
-ghost use Rattle.canvas.specs.Emit.{cellsOf, rowOf, fourAt, Same, Plain, Over, endIn, bytesTo, rowIn};
+ghost use Rattle.canvas.specs.Emit.{cellsOf, rowOf, fourAt, Same, Plain, Over, cellsIn, lineOf, endIn, bytesTo, bytesIn, rowIn};
 
 // Four cells side by side. (A row is looked at in fours and sixteens, which the compiler keeps in wide registers.)
 pub struct Four {
@@ -144,19 +145,98 @@ pub fn text_bytes(cells: &[u32], width: usize, height: usize) -> usize
     bytes
 }
 
+// Writes four cells of one byte each.
+fn put_four(f: Four, out: &mut [u8], at: usize)
+    requires { ⌜ Plain f ⌝ }
+    requires { ⌜ at + 4 ≤ length (now out) ⌝ }
+    ensures { λ r. ⌜ now (out .exit) ≡ sets (now (out .entry)) at (cellsIn f) ⌝ }
+{
+    out[at] = f.a as u8;
+    out[at + 1] = f.b as u8;
+    out[at + 2] = f.c as u8;
+    out[at + 3] = f.d as u8;
+}
+
+// Writes sixteen cells of one byte each, and answers the place after them.
+fn put_plain(a: Four, b: Four, c: Four, d: Four, out: &mut [u8], at: usize) -> usize
+    requires { ⌜ (Plain a) × (Plain b) × (Plain c) × (Plain d) ⌝ }
+    requires { ⌜ at + 16 ≤ length (now out) ⌝ }
+    ensures { λ r. ⌜ (r ≡ at + 16) × (now (out .exit) ≡ sets (now (out .entry)) at (cellsIn a ++ cellsIn b ++ cellsIn c ++ cellsIn d)) ⌝ }
+{
+    put_four(a, out, at);
+    put_four(b, out, at + 4);
+    put_four(c, out, at + 8);
+    put_four(d, out, at + 12);
+    at + 16
+}
+
+// Writes sixteen marks ─, and answers the place after them.
+fn put_line(out: &mut [u8], at: usize) -> usize
+    requires { ⌜ at + 48 ≤ length (now out) ⌝ }
+    ensures { λ r. ⌜ (r ≡ at + 48) × (now (out .exit) ≡ sets (now (out .entry)) at (lineOf 16)) ⌝ }
+{
+    let mut to = at;
+    let mut k = 0usize;
+    while k < 16 {
+        to = text::encode(0x2500, out, to);
+        k += 1;
+    }
+    to
+}
+
+// Writes n cells from x on, one by one, and answers the place after them.
+fn put_cells(row: &[u32], x: usize, n: usize, out: &mut [u8], at: usize) -> usize
+    requires { ⌜ (x + n ≤ length (now row)) × (at + length (bytesIn (now row) x n) ≤ length (now out)) ⌝ }
+    requires { ⌜ ((i : ℕ) → i < n → getD (now row) (x + i) 0 < 0x200000) ⌝ }
+    ensures { λ r. ⌜ (r ≡ at + length (bytesIn (now (row .entry)) x n)) × (now (out .exit) ≡ sets (now (out .entry)) at (bytesIn (now (row .entry)) x n)) ⌝ }
+{
+    let mut to = at;
+    let mut k = 0;
+    while k < n {
+        to = text::encode(row[x + k], out, to);
+        k += 1;
+    }
+    to
+}
+
+// Writes sixteen cells from x on, and answers the place after them. Most are all plain or all ─.
+fn put_sixteen(row: &[u32], x: usize, out: &mut [u8], at: usize) -> usize
+    requires { ⌜ (x + 16 ≤ length (now row)) × (at + length (bytesIn (now row) x 16) ≤ length (now out)) ⌝ }
+    requires { ⌜ ((i : ℕ) → i < 16 → getD (now row) (x + i) 0 < 0x200000) ⌝ }
+    ensures { λ r. ⌜ (r ≡ at + length (bytesIn (now (row .entry)) x 16)) × (now (out .exit) ≡ sets (now (out .entry)) at (bytesIn (now (row .entry)) x 16)) ⌝ }
+{
+    let a = four_at(row, x);
+    let b = four_at(row, x + 4);
+    let c = four_at(row, x + 8);
+    let d = four_at(row, x + 12);
+    if all(plain(a), plain(b), plain(c), plain(d)) {
+        return put_plain(a, b, c, d, out, at);
+    }
+    if all(
+        same(a, 0x2500),
+        same(b, 0x2500),
+        same(c, 0x2500),
+        same(d, 0x2500),
+    ) {
+        return put_line(out, at);
+    }
+    put_cells(row, x, 16, out, at)
+}
+
 // Writes the first `end` cells of a row from out[at] on, and answers the place after them.
 pub fn write_to(row: &[u32], end: usize, out: &mut [u8], at: usize) -> usize
     requires { ⌜ (end ≤ length (now row)) × (at + length (bytesTo (now row) end) ≤ length (now out)) ⌝ }
     requires { ⌜ ((i : ℕ) → i < end → getD (now row) i 0 < 0x200000) ⌝ }
-    ensures { λ r. ⌜ (r ≡ at + length (bytesTo (now (row .entry)) end)) × (now (out .exit) ≡ sets (now (out .entry)) at (bytesTo (now (row .entry)) end)) ⌝ }
+    ensures { λ r.
+        ⌜ (r ≡ at + length (bytesTo (now (row .entry)) end)) × (now (out .exit) ≡ sets (now (out .entry)) at (bytesTo (now (row .entry)) end)) ⌝ }
 {
     let mut to = at;
     let mut x = 0;
-    while x < end {
-        to = text::encode(row[x], out, to);
-        x += 1;
+    while 16 <= end - x {
+        to = put_sixteen(row, x, out, to);
+        x += 16;
     }
-    to
+    put_cells(row, x, end - x, out, to)
 }
 
 // Writes a row's text and its 0A from out[at] on, and answers the place after it.
