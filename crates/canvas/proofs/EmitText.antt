@@ -18,6 +18,9 @@ row-within w h y l = omega (arith, mul-le-mul-right {m = suc y} {n = h} w l, suc
 
 -- that row as the code lends it
 module _ (cells : List ℕ) (w h y : ℕ) (l : y < h) (n : w * h ≤ length cells) where
+  pub lent-width : length (take (y * w + w - y * w) (drop (y * w) cells)) ≡ w
+  lent-width = rw (add-sub-cancel-left (y * w) w) (lent-length cells w y (omega (arith, row-within w h y l)))
+
   pub lent-text : rowIn (take (y * w + w - y * w) (drop (y * w) cells)) ≡ rowText (cellsOf cells w) w y
   lent-text = rw (add-sub-cancel-left (y * w) w) (lent-row cells w y (omega (arith, row-within w h y l)))
 
@@ -26,7 +29,7 @@ module _ (cells : List ℕ) (w h y : ℕ) (l : y < h) (n : w * h ≤ length cell
   lent-below k b i m =
       let e = row-within w h y l in
       let fits : y * w + w ≤ length cells = omega arith in
-      let m′ : i < w = omega (arith, lent-length cells w y fits, rw (add-sub-cancel-left (y * w) w) at m) in
+      let m′ : i < w = omega (arith, lent-width) in
       rw (add-sub-cancel-left (y * w) w) (rw (lent-at cells w y fits i m′) (b (y * w + i) (omega arith)))
 
 module _ (f : ℕ → ℕ → ℕ) (w : ℕ) where

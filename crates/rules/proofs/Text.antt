@@ -1,10 +1,10 @@
 -- The text of a canvas: it goes by what stands on the canvas alone, and each of its rows has at most four bytes a cell and one more.
 -- Each law is one about `each`, taken twice: along a row, and along the rows.
 use mathlib.Core.Path.{_≡_, refl, ap, sym, _∙_}
-use mathlib.Core.List.{List, [], _∷_, _++_}
+use mathlib.Core.List.{List, [], _∷_, _++_, append-assoc, append-nil}
 use mathlib.Core.Bool.{Bool, true, false}
 use Prim.Native.Nat.{ℕ, suc, zero, _+_, _*_, _≤_, _<_}
-use native.Mathlib.Nat.{suc-mul}
+use native.Mathlib.Nat.{suc-mul, add-zero, add-suc}
 use native.Mathlib.Numerals.{add-one}
 use native.Mathlib.Decide.{decLe}
 use native.Mathlib.Omega.{arith}
@@ -43,6 +43,12 @@ each-rises f m (suc n) h =
 pub each-next : {A : Type 0} (f : ℕ → List A) (n : ℕ) → each f (n + 1) ≡ each f n ++ f n
 unfolding each
 each-next f n = rw (add-one n)
+
+-- the first m, and then n more
+pub each-add : {A : Type 0} (f : ℕ → List A) (m n : ℕ) → each f (m + n) ≡ each f m ++ each (λ k. f (m + k)) n
+unfolding each
+each-add f m zero = rw (add-zero m) (sym (append-nil (each f m)))
+each-add f m (suc n) = rw (add-suc m n, each-add f m n) (append-assoc (each f m) (each (λ k. f (m + k)) n) (f (m + n)))
 
 -- where all have room, so has the next
 pub each-room : {A : Type 0} (f : ℕ → List A) (n e : ℕ) → n < e → length (each f n) + length (f n) ≤ length (each f e)

@@ -6,7 +6,7 @@ use lib.ListN.{length, take, drop, length-append}
 use Rattle.rules.specs.Base.{each}
 use Rattle.rules.specs.Drawing.{textOf, rowText}
 use Rattle.canvas.specs.Emit.{cellsOf}
-use Rattle.canvas.proofs.EmitText.{row-within, lent-text, text-next, text-room, text-size}
+use Rattle.canvas.proofs.EmitText.{row-within, lent-width, lent-text, text-next, text-room, text-size}
 use borrow.Author.Needs.{needs}
 use Rattle.canvas.proofs.emit.text_bytes.Statement.{statement}
 use Rattle.canvas.proofs.emit.text_bytes.Tie as tie
@@ -40,7 +40,12 @@ part-row-bytes-end : tie.Need-part-row-bytes-end Inv-loop μ-loop
 part-row-bytes-end c = omega (arith, row-within (c .before .before .before .args .width) (c .before .before .before .args .height) (c .before .loop .y) (search needs))
 
 row-bytes-requires : tie.Need-row-bytes-requires Inv-loop μ-loop
-row-bytes-requires c κs = search needs
+row-bytes-requires c κs =
+    let s = c .before .before in
+    let start = s .before .before in
+    let w = start .args .width in
+    let h = start .args .height in
+    omega (arith, lent-width (start .args .cells .now) w h (s .loop .y) (search needs) (search needs), row-within w h (s .loop .y) (search needs))
 
 add-bytes : tie.Need-add-bytes Inv-loop μ-loop
 add-bytes c =

@@ -1,12 +1,12 @@
--- What is left of the row so far ends where the whole row does.
+-- What is left of the row so far ends where the whole row does: eight spaces are no part of it.
 use mathlib.Core.Path.{_≡_, refl, sym, _∙_}
 use Prim.Native.Nat.{_≤_}
-use native.Mathlib.Omega.{arith}
-use borrow.Author.Needs.{needs}
+use borrow.Author.Tests.{not-false}
 use lib.ListN.{length}
 use Rattle.rules.specs.Drawing.{endOf}
 use Rattle.canvas.specs.Emit.{rowOf, endIn}
-use Rattle.canvas.proofs.EmitRow.{trim-space, trim-mark}
+use Rattle.canvas.proofs.EmitRow.{trim-eight}
+use borrow.Author.Needs.{needs}
 use Rattle.canvas.proofs.emit.trimmed.Statement.{statement}
 use Rattle.canvas.proofs.emit.trimmed.Tie as tie
 
@@ -20,37 +20,52 @@ loop-holds : tie.Need-loop-holds Inv-loop μ-loop
 unfolding endIn
 loop-holds c = (search needs, refl)
 
-sub-if1 : tie.Need-sub-if1 Inv-loop μ-loop
-sub-if1 c = search needs
+four-at-requires : tie.Need-four-at-requires Inv-loop μ-loop
+four-at-requires c κs = search needs
 
-mul-if1 : tie.Need-mul-if1 Inv-loop μ-loop
-mul-if1 c = search needs
+sub-four-at : tie.Need-sub-four-at Inv-loop μ-loop
+sub-four-at c = search needs
 
-shared-slice-read-if1 : tie.Need-shared-slice-read-if1 Inv-loop μ-loop
-shared-slice-read-if1 c = search needs
+four-at-requires-2 : tie.Need-four-at-requires-2 Inv-loop μ-loop
+four-at-requires-2 c κs = search needs
+
+same-requires : tie.Need-same-requires Inv-loop μ-loop
+same-requires c κs = search needs
+
+same-requires-2 : tie.Need-same-requires-2 Inv-loop μ-loop
+same-requires-2 c κs = search needs
+
+all-requires : tie.Need-all-requires Inv-loop μ-loop
+all-requires c κs = search needs
+
+last-requires : tie.Need-last-requires Inv-loop μ-loop
+last-requires c κs = search needs
 
 returns : tie.Need-returns Inv-loop μ-loop
 returns c =
-    let l = c .before .before .before .loop in
-    sym (l .inv .1 ∙ trim-mark (c .before .before .before .before .args .row .now) (l .end) (search needs) (c .if1 .taken))
-
-sub-end : tie.Need-sub-end Inv-loop μ-loop
-sub-end c = search needs
+    let l = c .before .before .before .before .before .before .before .before .loop in
+    c .last .ensures ∙ sym (l .inv .1)
 
 loop-less : tie.Need-loop-less Inv-loop μ-loop
 loop-less c = search needs
 
 loop-again : tie.Need-loop-again Inv-loop μ-loop
 loop-again c =
-    let l = c .before .before .before .loop in
-    (search needs, l .inv .1 ∙ trim-space (c .before .before .before .before .args .row .now) (l .end) (search needs) (c .if1 .left))
+    let a = c .before in
+    let r = a .before in
+    let q = r .before .before in
+    let s = q .before .before .before in
+    let t = a .all .ensures (not-false _ (c .if1 .left)) in (
+      search needs,
+      s .loop .inv .1
+          ∙ trim-eight (s .before .before .args .row .now) (s .loop .end) (q .before .four-at .result) (q .four-at2 .result) (search needs) (q .before .four-at .ensures) (q .four-at2 .ensures) (r .before .same .ensures (t .0)) (r .same2 .ensures (t .1)),
+    )
+
+last-requires-2 : tie.Need-last-requires-2 Inv-loop μ-loop
+last-requires-2 c κs = search needs
 
 returns-2 : tie.Need-returns-2 Inv-loop μ-loop
-unfolding endOf
-returns-2 c =
-    let l = c .before .loop in
-    let z : l .end ≡ 0 = omega arith in
-    sym (rw z at (l .inv .1))
+returns-2 c = c .last2 .ensures ∙ sym (c .before .before .loop .inv .1)
 
 pub trimmed-spec : {M : Type 1} → statement M
 trimmed-spec =
@@ -59,11 +74,15 @@ trimmed-spec =
     Inv-loop
     μ-loop
     loop-holds
-    sub-if1
-    mul-if1
-    shared-slice-read-if1
+    four-at-requires
+    sub-four-at
+    four-at-requires-2
+    same-requires
+    same-requires-2
+    all-requires
+    last-requires
     returns
-    sub-end
     loop-less
     loop-again
+    last-requires-2
     returns-2)
