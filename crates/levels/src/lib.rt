@@ -1,1 +1,9 @@
 // The plan table: refusals 1 to 6, rows and columns, and the cells of a row.
+mod titles;
+mod walk;
+
+pub use titles::title;
+pub use walk::next_cell;
+pub use walk::previous_cell;
+pub use walk::rows;
+pub use walk::untitled;

@@ -1,0 +1,4 @@
+pub mod Filled
+pub mod Walks
+pub mod Plans
+pub mod Empties
