@@ -1,0 +1,14 @@
+// Symbols, lines, boxes and labels on lent cells.
+mod draw;
+mod glyphs;
+mod row;
+
+pub use draw::Size;
+pub use draw::across;
+pub use draw::blank;
+pub use draw::down;
+pub use draw::draw_axis;
+pub use draw::draw_box;
+pub use draw::symbol;
+pub use row::fill;
+pub use row::put;

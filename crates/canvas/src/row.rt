@@ -1,0 +1,40 @@
+// One row of the canvas: what lies beyond its end is dropped.
+ghost use mathlib.Core.Path.{_≡_};
+ghost use Prim.Native.Nat.{_+_, _-_, _≤_, _<_, min, max};
+ghost use lib.ListN.{length, set, replicate};
+ghost use lib.Seq.{sets};
+
+// Where n marks from a on stop, in a row that ends at `end`.
+fn stop(end: usize, a: usize, n: usize) -> usize
+    ensures { λ r. ⌜ r ≡ max a (min end (a + n)) ⌝ }
+{
+    if end < a {
+        return a;
+    }
+    if end - a < n {
+        return end;
+    }
+    a + n
+}
+
+// Puts n marks from x on.
+pub fn fill(row: &mut [u32], x: usize, n: usize, mark: u32)
+    ensures { λ _. ⌜ now (row .exit) ≡ sets (now (row .entry)) x (replicate n mark) ⌝ }
+{
+    let end = stop(row.len(), x, n);
+    let mut k = x;
+    while k < end {
+        row[k] = mark;
+        k += 1;
+    }
+}
+
+// Puts one mark at x.
+pub fn put(row: &mut [u32], x: usize, mark: u32)
+    ensures { λ _. ⌜ now (row .exit) ≡ set (now (row .entry)) x mark ⌝ }
+{
+    if x < row.len() {
+        row[x] = mark;
+        return;
+    }
+}
