@@ -1,8 +1,11 @@
 // Symbols, lines, boxes and labels on lent cells.
+mod connect;
 mod draw;
 mod glyphs;
 mod row;
 
+pub use connect::Gap;
+pub use connect::draw_connections;
 pub use draw::Size;
 pub use draw::across;
 pub use draw::blank;
