@@ -3,3 +3,8 @@ pub mod Walks
 pub mod Plans
 pub mod Empties
 pub mod Nodes
+pub mod Accepted
+pub mod Runs
+pub mod Tests
+pub mod Between
+pub mod Cells

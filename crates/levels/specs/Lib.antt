@@ -2,3 +2,5 @@ pub mod Filled
 pub mod Accepted
 pub mod Cells
 pub mod Nodes
+pub mod Placed
+pub mod Between

@@ -2,6 +2,7 @@
 mod encoding;
 mod line;
 mod number;
+mod utf8;
 
 pub use encoding::encode;
 pub use encoding::encoded;
@@ -13,3 +14,4 @@ pub use number::digits;
 pub use number::greater;
 pub use number::longer;
 pub use number::wide;
+pub use utf8::valid;
