@@ -1,0 +1,25 @@
+// Rows, columns, boxes and the canvas' size.
+mod cell;
+mod heights;
+mod lines;
+mod size;
+mod widths;
+
+pub use cell::Frame;
+pub use cell::bottom_of;
+pub use cell::frame_of;
+pub use cell::half_up;
+pub use cell::top_of;
+pub use heights::Rows;
+pub use heights::canvas_height;
+pub use heights::row_centers;
+pub use heights::tree_rows;
+pub use lines::measures;
+pub use size::area;
+pub use size::index_digits;
+pub use size::large;
+pub use widths::Columns;
+pub use widths::canvas_width;
+pub use widths::column_centers;
+pub use widths::middles;
+pub use widths::tree_columns;
