@@ -4,6 +4,7 @@ use mathlib.Core.Path.{_≡_, refl, ap, sym, _∙_}
 use mathlib.Core.List.{List, [], _∷_, _++_}
 use Prim.Native.Nat.{ℕ, suc, _+_, _-_, _≤_, _<_, min, max}
 use native.Mathlib.Nat.{add-zero, sub-self}
+use native.Mathlib.Numerals.{add-one}
 use native.Mathlib.Decide.{decLe, ℕ-discrete}
 use native.Mathlib.Omega.{arith}
 use lib.Dec.{leb}
@@ -44,6 +45,17 @@ enough l x n k m e =
           (sets-append l x (replicate (k - x) m) (replicate (n - (k - x)) m)
           ∙ sets-out (sets l x (replicate (k - x) m)) (x + length (replicate (k - x) m)) (replicate (n - (k - x)) m) (omega (arith, length-sets l x (replicate (k - x) m))))))
     ]
+
+-- a loop that stores marks one by one from x on: what is to come, stored on what the row is now, is all, stored on what it was
+pub mark-stored : (l row : List ℕ) (x k m : ℕ) (all rest next : List ℕ) → sets l x all ≡ sets row k rest → rest ≡ m ∷ next
+    → sets l x all ≡ sets (set row k m) (k + 1) next
+mark-stored l row x k m all rest next e q = e ∙ rw (q, add-one k)
+
+pub row-ended : (l row : List ℕ) (x k : ℕ) (all rest : List ℕ) → sets l x all ≡ sets row k rest → length row ≤ k → row ≡ sets l x all
+row-ended l row x k all rest e h = sym (e ∙ sets-out row k rest h)
+
+pub marks-ended : (l row : List ℕ) (x k : ℕ) (all rest : List ℕ) → sets l x all ≡ sets row k rest → rest ≡ [] → row ≡ sets l x all
+marks-ended l row x k all rest e q = sym (e ∙ rw q)
 
 -- what a cell of the row holds
 pub sets-at : (l : List ℕ) (i : ℕ) (vs : List ℕ) (k : ℕ) → k < length l

@@ -3,7 +3,8 @@ ghost use mathlib.Core.Path.{_≡_};
 ghost use mathlib.Core.List.{[], _∷_, _++_};
 ghost use Prim.Native.Nat.{_+_, _*_, _-_, _≤_, _<_, _^_};
 ghost use lib.ListN.{length, drop, replicate};
-ghost use Rattle.rules.specs.Strokes.{across, down, dot};
+ghost use Rattle.rules.specs.Strokes.{across, down, write, dot};
+ghost use Rattle.rules.specs.Lines.{digits};
 ghost use Rattle.rules.specs.Drawing.{boxes, frame};
 ghost use Rattle.canvas.specs.Stroked.{stroked};
 use crate::glyphs::BOTTOM_LEFT;
@@ -67,6 +68,19 @@ pub fn down(cells: &mut [u32], size: Size, x: u32, y: u32, n: u32, mark: u32)
         symbol(cells, size, x, y + k, mark);
         k += 1;
     }
+}
+
+// Puts the digits of n from (x, y) on.
+pub fn index(cells: &mut [u32], size: Size, x: u32, y: u32, n: u32)
+    requires { ⌜ (size .width * size .height ≤ length (now cells)) × (n < 256) ⌝ }
+    ensures { λ _. ⌜ now (cells .exit) ≡ stroked (size .width) (size .height) (write x y (digits n) ∷ []) (now (cells .entry)) ⌝ }
+{
+    if size.height <= y {
+        return;
+    }
+    let from = (y as usize) * (size.width as usize);
+    let to = from + (size.width as usize);
+    row::figures(&mut cells[from..to], x as usize, n);
 }
 
 // Puts a border from (x, y) on: a corner, t + 2 horizontal marks, a corner.

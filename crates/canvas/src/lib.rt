@@ -12,6 +12,8 @@ pub use draw::blank;
 pub use draw::down;
 pub use draw::draw_axis;
 pub use draw::draw_box;
+pub use draw::index;
 pub use draw::symbol;
+pub use row::figures;
 pub use row::fill;
 pub use row::put;

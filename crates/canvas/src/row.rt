@@ -3,6 +3,7 @@ ghost use mathlib.Core.Path.{_≡_};
 ghost use Prim.Native.Nat.{_+_, _-_, _≤_, _<_, min, max};
 ghost use lib.ListN.{length, set, replicate};
 ghost use lib.Seq.{sets};
+ghost use Rattle.rules.specs.Lines.{digits};
 
 // Where n marks from a on stop, in a row that ends at `end`.
 fn stop(end: usize, a: usize, n: usize) -> usize
@@ -36,5 +37,30 @@ pub fn put(row: &mut [u32], x: usize, mark: u32)
     if x < row.len() {
         row[x] = mark;
         return;
+    }
+}
+
+// The mark of an ASCII byte.
+fn mark_of(b: u8) -> u32
+    ensures { λ r. ⌜ r ≡ b ⌝ }
+{
+    b as u32
+}
+
+// Puts the digits of n from x on.
+pub fn figures(row: &mut [u32], x: usize, n: u32)
+    requires { ⌜ n < 256 ⌝ }
+    ensures { λ _. ⌜ now (row .exit) ≡ sets (now (row .entry)) x (digits n) ⌝ }
+{
+    let count = text::digits(n);
+    let mut i = 0;
+    let mut k = x;
+    while i < count {
+        if row.len() <= k {
+            return;
+        }
+        row[k] = mark_of(text::digit(n, i));
+        i += 1;
+        k += 1;
     }
 }

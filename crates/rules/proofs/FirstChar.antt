@@ -2,11 +2,11 @@
 -- holds the other code points. True because valid bytes are what their code points encode to, and the first byte tells how many follow.
 use mathlib.Core.Path.{_≡_, refl, ap, sym, _∙_, subst}
 use mathlib.Core.List.{List, [], _∷_, _++_, List·Memᴰ, List·Memᴰ·head}
-use mathlib.Core.Bool.{Bool, true, false}
-use Prim.Native.Nat.{ℕ, suc, zero, _+_, _/_, _%_, _≤_, _<_}
+use mathlib.Core.Bool.{true}
+use Prim.Native.Nat.{ℕ, _+_, _-_, _≤_, _<_}
 use native.Mathlib.Omega.{arith}
-use lib.ListN.{length, take, drop, getD, length-append}
-use lib.Seq.{take-append-seam, drop-append-seam}
+use lib.ListN.{length, take, drop, getD, length-append, length-drop}
+use lib.Seq.{take-append-seam, drop-append-seam, take-all, drop-drop}
 use Rattle.rules.specs.Base.{concat}
 use Rattle.rules.specs.Utf8.{valid, points, utf8, more}
 use Rattle.rules.proofs.Chars.{points-utf8, valid-utf8}
@@ -56,3 +56,30 @@ first-char s e h = go (points s) (utf8-points s e) (λ v. points-scalar s e v) r
         let i : s ≡ utf8 v ++ t = unfold concat in sym q in
         let n : more (getD s 0 0) + 1 ≡ length (utf8 v) = ap (λ (k : List ℕ). more (getD k 0 0) + 1) i ∙ more-utf8 v t (omega (arith, w .below)) in
         rw (p, n) (subst (λ (k : List ℕ). FirstChar k v (length (utf8 v))) (sym i) (written v t w (ap valid (sym i) ∙ e)))
+
+-- the same of what is left of s from at on, with the code point v of n bytes read there, as a function sees it that is lent what is left
+pub record CharHere (s : List ℕ) (at v n : ℕ) : Type 0 where
+  pub fits : at + n ≤ length s
+  pub some : 0 < n
+  pub scalar : Scalar v
+  pub bytes : take n (drop at s) ≡ utf8 v
+  pub next : points (drop at s) ≡ v ∷ points (drop (at + n) s)
+  pub rest : valid (drop (at + n) s) ≡ true
+
+pub lent-rest : (s : List ℕ) (at : ℕ) → take (length s - at) (drop at s) ≡ drop at s
+lent-rest s at = take-all (length s - at) (drop at s) (omega (arith, length-drop at s))
+
+pub lent-char : (s : List ℕ) (at v n : ℕ) → at < length s → valid (drop at s) ≡ true
+    → v ≡ getD (points (take (length s - at) (drop at s))) 0 0 → n ≡ more (getD (take (length s - at) (drop at s)) 0 0) + 1 → CharHere s at v n
+lent-char s at v n h e i j =
+    let l : length (drop at s) ≡ length s - at = length-drop at s in
+    let f = first-char (drop at s) e (omega arith) in
+    let r : FirstChar (drop at s) v n = rw (i, j, lent-rest s at) f in
+    record {
+      fits = omega (arith, r .fits);
+      some = omega arith;
+      scalar = r .scalar;
+      bytes = r .bytes;
+      next = rw (← drop-drop n at s) (r .next);
+      rest = rw (← drop-drop n at s) (r .rest);
+    }

@@ -2,13 +2,13 @@
 -- their code points encode to. Scalar values, written, are valid.
 use mathlib.Core.Path.{_≡_, refl, ap, sym, _∙_}
 use mathlib.Core.List.{List, [], _∷_, _++_, List·Memᴰ, List·Memᴰ·cases-cons, List·Memᴰ·head, List·Memᴰ·tail, List·Memᴰ·not-nil}
-use mathlib.Core.Bool.{Bool, true, false, _&&_, false≢true}
-use mathlib.Core.Logic.{⊎-elim, _⊎_, inl, inr}
-use Prim.Native.Nat.{ℕ, suc, zero, _+_, _*_, _/_, _%_, _≤_, _<_}
+use mathlib.Core.Bool.{Bool, true, false, false≢true}
+use mathlib.Core.Logic.{⊎-elim}
+use Prim.Native.Nat.{ℕ, _+_, _/_, _%_, _≤_, _<_}
 use native.Mathlib.Decide.{decLe}
 use native.Mathlib.Omega.{arith}
 use Rattle.rules.specs.Base.{concat}
-use Rattle.rules.specs.Utf8.{span, tail, never, following, continues, valid, points, utf8}
+use Rattle.rules.specs.Utf8.{span, tail, never, continues, valid, points, utf8}
 use Rattle.rules.proofs.Chars.{utf8-three, utf8-four, valid-by, span-above, following-ED, following-F4, valid-utf8}
 use Rattle.rules.proofs.CharsBack.{utf8-points, following-F5}
 use Rattle.rules.proofs.Codec.{points-small}

@@ -1,6 +1,6 @@
 -- Leading zeros of the complemented byte are the byte's leading ones: one test that is computed for all 256 bytes. A second
 -- such test gives the bytes that a number of leading ones stands for.
-use mathlib.Core.Path.{_≡_, refl, ap, sym, _∙_}
+use mathlib.Core.Path.{_≡_, refl}
 use mathlib.Core.Bool.{Bool, true, false}
 use mathlib.Core.List.{[], _∷_}
 use mathlib.Core.Logic.{⊎-elim}

@@ -14,4 +14,7 @@ pub use number::digits;
 pub use number::greater;
 pub use number::longer;
 pub use number::wide;
+pub use utf8::Point;
+pub use utf8::decode;
+pub use utf8::points_in;
 pub use utf8::valid;

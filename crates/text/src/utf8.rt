@@ -2,7 +2,7 @@
 ghost use mathlib.Core.Path.{_≡_};
 ghost use mathlib.Core.Bool.{true, false};
 ghost use mathlib.Core.List.{List, _∷_};
-ghost use Prim.Native.Nat.{ℕ, _+_, _<_, _≤_};
+ghost use Prim.Native.Nat.{ℕ, _+_, _%_, _<_, _≤_};
 ghost use lib.ListN.{length, getD};
 ghost use Rattle.rules.specs.Utf8.{following, continues, points, more};
 ghost use Rattle.rules.specs.Utf8 as rule;
@@ -163,4 +163,65 @@ pub fn valid(s: &[u8]) -> bool
         at += 1;
     }
     w.bytes == 0
+}
+
+// A code point and the number of its bytes.
+pub struct Point {
+    pub value: u32,
+    pub size: usize,
+}
+
+// The bits xxxxxx of a byte 10xxxxxx.
+fn low_bits(b: u8) -> u32
+    ensures { λ r. ⌜ r ≡ b % 64 ⌝ }
+{
+    (b % 64) as u32
+}
+
+// The first code point of the rest of valid UTF-8: the leading ones of its first byte choose its length.
+pub fn decode(rest: &[u8]) -> Point
+    requires { ⌜ (rule.valid (now rest) ≡ true) × (0 < length (now rest)) ⌝ }
+    ensures { λ r. ⌜ (r .value ≡ getD (points (now (rest .entry))) 0 0) × (r .size ≡ more (getD (now (rest .entry)) 0 0) + 1) ⌝ }
+{
+    let first = rest[0];
+    let lead = ones(first);
+    if lead == 0 {
+        return Point {
+            value: first as u32,
+            size: 1,
+        };
+    }
+    let b = low_bits(rest[1]);
+    if lead == 2 {
+        return Point {
+            value: (first % 32) as u32 * 64 + b,
+            size: 2,
+        };
+    }
+    let c = low_bits(rest[2]);
+    if lead == 3 {
+        return Point {
+            value: ((first % 16) as u32 * 64 + b) * 64 + c,
+            size: 3,
+        };
+    }
+    Point {
+        value: (((first % 8) as u32 * 64 + b) * 64 + c) * 64 + low_bits(rest[3]),
+        size: 4,
+    }
+}
+
+// The number of code points of valid UTF-8.
+pub fn points_in(s: &[u8]) -> usize
+    requires { ⌜ rule.valid (now s) ≡ true ⌝ }
+    ensures { λ r. ⌜ r ≡ length (points (now (s .entry))) ⌝ }
+{
+    let mut at = 0;
+    let mut count: usize = 0;
+    while at < s.len() {
+        let p = decode(&s[at..]);
+        at += p.size;
+        count += 1;
+    }
+    count
 }

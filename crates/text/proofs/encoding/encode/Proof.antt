@@ -1,6 +1,6 @@
 -- `text::encoding::encode` meets its contract: in each range of v the bytes written are those that the rules name for it.
 use mathlib.Core.Path.{_≡_, refl, ap}
-use Prim.Native.Nat.{ℕ, suc, _+_}
+use Prim.Native.Nat.{suc, _+_}
 use native.Mathlib.Omega.{arith}
 use lib.ListN.{length, length-set}
 use Rattle.rules.proofs.Chars.{utf8-one, utf8-two, utf8-three, utf8-four}

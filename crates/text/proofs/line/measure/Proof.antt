@@ -1,9 +1,9 @@
 -- `text::line::measure` meets its contract: the lines counted and those from `at` on are one more than all, and the longest of all
 -- is the longest of both.
-use mathlib.Core.Path.{_≡_, refl, ap, sym, _∙_}
-use Prim.Native.Nat.{ℕ, _≤_, _<_, _-_, _+_, max}
+use mathlib.Core.Path.{_≡_, ap}
+use Prim.Native.Nat.{_≤_, _-_, _+_, max}
 use native.Mathlib.Omega.{arith}
-use lib.ListN.{length, take, drop, getD}
+use lib.ListN.{length, drop}
 use Rattle.rules.specs.Base.{greatest}
 use Rattle.rules.specs.Lines.{linesOf}
 use Rattle.rules.proofs.Lines.{lent-line}

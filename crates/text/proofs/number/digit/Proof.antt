@@ -1,6 +1,6 @@
 -- `text::number::digit` meets its contract: what is left has `after` digits behind digit k, and the same digit k as n.
 use mathlib.Core.Path.{_≡_, sym, _∙_}
-use Prim.Native.Nat.{ℕ, _+_}
+use Prim.Native.Nat.{_+_}
 use native.Mathlib.Omega.{arith}
 use lib.ListN.{length, getD}
 use Rattle.rules.specs.Lines.{digits}

@@ -1,12 +1,11 @@
 -- `text::number::digits` meets its contract: what was counted and the digits of what is left are one more than all digits.
-use mathlib.Core.Path.{_≡_}
-use Prim.Native.Nat.{ℕ, _≤_, _<_, _+_}
+use mathlib.Core.Path.{_≡_, ap}
+use Prim.Native.Nat.{_≤_, _+_}
 use native.Mathlib.Omega.{arith}
 use lib.ListN.{length}
 use Rattle.rules.specs.Lines.{digits}
 use Rattle.rules.proofs.Digits.{digits-one, length-more}
 use borrow.Author.Needs.{needs}
-use mathlib.Core.Path.{ap}
 use Rattle.text.proofs.number.digits.Statement.{statement}
 use Rattle.text.proofs.number.digits.Tie as tie
 

@@ -1,7 +1,6 @@
 -- `text::utf8::after` meets its contract: the leading ones tell the range of the first byte.
-use mathlib.Core.Path.{_≡_, refl, ap, sym, _∙_}
+use mathlib.Core.Path.{sym, _∙_}
 use native.Mathlib.Omega.{arith}
-use Rattle.rules.specs.Utf8.{tail}
 use Rattle.rules.proofs.Chars.{following-00}
 use Rattle.text.specs.Wanted.{wanted}
 use Rattle.text.proofs.Ones.{range, no-lead, Between}

@@ -1,11 +1,9 @@
 -- `text::utf8::after_three` meets its contract, by the grammar's alternative for each range of first bytes.
-use mathlib.Core.Path.{_≡_, refl, ap, sym, _∙_}
 use native.Mathlib.Omega.{arith}
 use native.Mathlib.Decide.{decLe}
 use Rattle.rules.specs.Utf8.{tail}
 use Rattle.rules.proofs.Chars.{following-E0, following-E1, following-ED, following-EE}
 use Rattle.text.specs.Wanted.{wanted, tails}
-use borrow.Author.Needs.{needs}
 use Rattle.text.proofs.utf8.after_three.Statement.{statement}
 use Rattle.text.proofs.utf8.after_three.Tie as tie
 

@@ -1,6 +1,5 @@
 -- `text::utf8::refused` meets its contract: its range is empty.
 use Rattle.text.proofs.Wanted.{empty}
-use borrow.Author.Needs.{needs}
 use Rattle.text.proofs.utf8.refused.Statement.{statement}
 use Rattle.text.proofs.utf8.refused.Tie as tie
 

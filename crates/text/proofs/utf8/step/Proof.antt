@@ -1,5 +1,5 @@
 -- `text::utf8::step` meets its contract: the byte passes the next test, fails it, or begins a character.
-use mathlib.Core.Path.{_≡_, refl, ap, sym, _∙_}
+use mathlib.Core.Path.{sym, _∙_}
 use native.Mathlib.Omega.{arith}
 use Rattle.text.proofs.Wanted.{begun, passed, failed}
 use Rattle.rules.proofs.Chars.{span-above}

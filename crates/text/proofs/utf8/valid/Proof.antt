@@ -1,7 +1,7 @@
 -- `text::utf8::valid` meets its contract: all is valid if the bytes from `at` on are what is wanted there.
 use mathlib.Core.Path.{_≡_, refl, ap, sym, _∙_}
 use native.Mathlib.Omega.{arith}
-use Prim.Native.Nat.{ℕ, suc, _≤_, _-_, _+_}
+use Prim.Native.Nat.{suc, _≤_, _-_}
 use native.Mathlib.Numerals.{add-one}
 use lib.ListN.{length, drop}
 use lib.Seq.{drop-cons, drop-length}
