@@ -1,10 +1,14 @@
 // Symbols, lines, boxes and labels on lent cells, and the text of finished cells.
+// Symbols, lines, boxes and labels on lent cells.
+mod connect;
 mod draw;
 mod emit;
 mod glyphs;
 mod label;
 mod row;
 
+pub use connect::Gap;
+pub use connect::draw_connections;
 pub use draw::Size;
 pub use draw::across;
 pub use draw::blank;

@@ -2,6 +2,7 @@ pub mod Filled
 pub mod Walks
 pub mod Plans
 pub mod Empties
+pub mod Nodes
 pub mod Accepted
 pub mod Runs
 pub mod Tests

@@ -1,5 +1,6 @@
 pub mod Filled
 pub mod Accepted
 pub mod Cells
+pub mod Nodes
 pub mod Placed
 pub mod Between
