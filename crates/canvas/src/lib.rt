@@ -1,5 +1,4 @@
-// Symbols, lines, boxes and labels on lent cells, and the text of finished cells.
-// Symbols, lines, boxes and labels on lent cells.
+// Symbols, lines, boxes, labels and connections on lent cells, and the text of finished cells.
 mod connect;
 mod draw;
 mod emit;
