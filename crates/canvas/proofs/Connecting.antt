@@ -1,16 +1,15 @@
 -- What the loops over children and parents draw, one node at a time: the strokes of the node at hand, and then those of the nodes
 -- from the next cell on. Each law takes what the calls ensure as hypotheses, and joins two lists of strokes by `stroked-append`.
-use mathlib.Core.Path.{_≡_, refl, ap, sym, _∙_}
-use mathlib.Core.List.{List, [], _∷_, _++_}
+use mathlib.Core.Path.{_≡_, ap, sym, _∙_}
+use mathlib.Core.List.{List, _∷_}
 use mathlib.Core.Bool.{true}
-use Prim.Native.Nat.{ℕ, _+_, _*_, _-_, _≤_, _<_}
+use Prim.Native.Nat.{ℕ, _+_, _*_, _≤_, _<_}
 use native.Mathlib.Decide.{decLe, ℕ-discrete}
 use native.Mathlib.Omega.{arith}
 use lib.Dec.{eqb, ltb}
 use lib.ListN.{length, getD}
 use borrow.Author.Tests.{eq-eqb, ne-eqb, lt-ltb, le-ltb}
 use Rattle.rules.specs.Base.{pick, concat}
-use Rattle.rules.specs.Strokes.{Stroke}
 use Rattle.levels.specs.Cells.{cellIn, nextCell}
 use Rattle.levels.specs.Nodes.{nodesIn}
 use Rattle.levels.proofs.Walks.{next-from, next-most, next-holds}

@@ -8,11 +8,18 @@ use lib.Dec.{eqb}
 use lib.ListN.{length, getD}
 use Rattle.rules.specs.Base.{pick, concat}
 use Rattle.rules.specs.Strokes.{Stroke, across, down, dot}
-use Rattle.rules.specs.Drawing.{Marks, boxes}
+use Rattle.rules.specs.Levels.{View}
+use Rattle.rules.specs.Measures.{cy}
+use Rattle.rules.specs.Drawing.{Marks, boxes, bendRow}
 use Rattle.levels.specs.Cells.{cellIn, nextCell}
 use Rattle.levels.specs.Nodes.{nodesIn}
+use Rattle.tree_view.specs.Box.{topOf, bottomOf}
 use Rattle.canvas.specs.declared.connect.Gap.{Gap}
 open Marks boxes using (─, │, ╮, ╰, ┬, ┴)
+
+-- the gap below row i
+abbrev pub gapOf : View → ℕ → Gap
+gapOf v i = record { depth = i; cy = cy v i; bend = bendRow v i; below = cy v (i + 1) }
 
 -- from a box's bottom border straight down to a box's top border
 abbrev pub straightAt : (x foot top : ℕ) → List Stroke
@@ -33,11 +40,11 @@ lineAt middle k = getD middle k 0 - 1
 
 -- its bottom border as a parent's,
 abbrev pub footAt : (lines : List ℕ) (gap : Gap) (k : ℕ) → ℕ
-footAt lines gap k = gap .cy - getD lines k 0 / 2 - 1 + getD lines k 0 + 1
+footAt lines gap k = bottomOf (gap .cy) (getD lines k 0)
 
 -- and its top border as a child's
 abbrev pub topAt : (lines : List ℕ) (gap : Gap) (k : ℕ) → ℕ
-topAt lines gap k = gap .below - getD lines k 0 / 2 - 1
+topAt lines gap k = topOf (gap .below) (getD lines k 0)
 
 module _ (middle lines : List ℕ) (gap : Gap) where
   -- the branches from x on to the children ks, the last one with the corner

@@ -1,7 +1,7 @@
 // The lines from a parent to its drawn children.
 ghost use mathlib.Core.Path.{_≡_};
 ghost use mathlib.Core.Bool.{true};
-ghost use Prim.Native.Nat.{_*_, _+_, _-_, _/_, _≤_, _<_, _^_};
+ghost use Prim.Native.Nat.{_*_, _+_, _≤_, _<_};
 ghost use lib.Dec.{ltb};
 ghost use lib.ListN.{length};
 ghost use Rattle.rules.specs.Base.{pick};
@@ -67,22 +67,6 @@ fn turn_of(next: usize, end: usize) -> u32
     TOP_RIGHT
 }
 
-// The box's top border, of a cell of n lines in a row whose centre is cy.
-fn top_of(cy: u32, n: u32) -> u32
-    requires { ⌜ n / 2 + 1 ≤ cy ⌝ }
-    ensures { λ r. ⌜ r ≡ cy - n / 2 - 1 ⌝ }
-{
-    cy - n / 2 - 1
-}
-
-// Its bottom border.
-fn bottom_of(cy: u32, n: u32) -> u32
-    requires { ⌜ (n / 2 + 1 ≤ cy) × (cy + n < 2 ^ 32) ⌝ }
-    ensures { λ r. ⌜ r ≡ cy - n / 2 - 1 + n + 1 ⌝ }
-{
-    cy - n / 2 + n
-}
-
 // The branches from x on the bend row to the drawn children from node `child` on, before node `end`.
 fn branches(
     cells: &mut [u32],
@@ -108,7 +92,7 @@ fn branches(
     while k < end {
         let next = levels::next_cell(table, end, k + 1, gap.depth + 1);
         let to = middle[k] - 1;
-        let top = top_of(gap.below, lines[k]);
+        let top = tree_view::top_of(gap.below, lines[k]);
         let turn = turn_of(next, end);
         branch(cells, size, from, gap.bend, to, turn, top);
         from = to;
@@ -169,9 +153,9 @@ fn connect(
         return;
     }
     let x = middle[p] - 1;
-    let foot = bottom_of(gap.cy, lines[p]);
+    let foot = tree_view::bottom_of(gap.cy, lines[p]);
     if middle[first] == middle[p] {
-        let top = top_of(gap.below, lines[first]);
+        let top = tree_view::top_of(gap.below, lines[first]);
         straight(cells, size, x, foot, top);
         let second = levels::next_cell(table, end, first + 1, gap.depth + 1);
         bends(

@@ -1,5 +1,4 @@
 -- No child, a child straight below and those further right, or all of them further right.
-use Prim.Native.Nat.{_<_}
 use native.Mathlib.Omega.{arith}
 use Rattle.canvas.proofs.Connecting.{first-child, second-right, first-right, connector-none, straight-drawn, bent-drawn}
 use borrow.Author.Needs.{needs}
