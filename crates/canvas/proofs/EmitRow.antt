@@ -13,6 +13,7 @@ use Rattle.rules.specs.Utf8.{utf8}
 use Rattle.rules.specs.Drawing.{endOf, rowText}
 use Rattle.rules.proofs.Chars.{utf8-one, utf8-two, utf8-three, utf8-four}
 use Rattle.rules.proofs.Text.{each-next, each-bound, utf8-some, end-space, end-mark, end-within, row-same}
+use Rattle.canvas.proofs.Runs.{sets-append}
 use Rattle.canvas.specs.Emit.{cellsOf, rowOf, fourAt, Same, Over, endIn, bytesTo, rowIn}
 use Rattle.canvas.specs.declared.emit.Four.{Four}
 
@@ -88,11 +89,6 @@ module _ (cells : List ℕ) (w y : ℕ) (h : y * w + w ≤ length cells) where
   pub lent-row : rowIn (take w (drop (y * w) cells)) ≡ rowText (cellsOf cells w) w y
   unfolding rowIn rowOf cellsOf
   lent-row = rw lent-length (row-same (rowOf (take w (drop (y * w) cells))) (cellsOf cells w) 0 y w lent-at)
-
--- stored one after the other
-pub sets-append : (l : List ℕ) (at : ℕ) (u v : List ℕ) → sets l at (u ++ v) ≡ sets (sets l at u) (at + length u) v
-sets-append l at [] v = rw (add-zero at)
-sets-append l at (a ∷ u) v = let k : at + suc (length u) ≡ suc at + length u = omega arith in rw k (sets-append (set l at a) (suc at) u v)
 
 -- the same of what two calls left
 pub stored : (l m r : List ℕ) (at to : ℕ) (u v : List ℕ) → to ≡ at + length u → m ≡ sets l at u → r ≡ sets m to v → r ≡ sets l at (u ++ v)

@@ -9,25 +9,22 @@ use lib.Seq.{sets, sets-eq}
 use Rattle.rules.specs.Base.{laid}
 use Rattle.rules.specs.Drawing.{rowText, textOf}
 use Rattle.rules.proofs.Text.{each-next, each-room, text-bound}
+use Rattle.canvas.proofs.Lent.{row-fits}
 use Rattle.canvas.specs.Emit.{cellsOf, rowIn}
 use Rattle.canvas.proofs.EmitRow.{lent-length, lent-at, lent-row}
-
--- row y of h rows
-pub row-within : (w h y : ℕ) → y < h → y * w + w ≤ w * h
-row-within w h y l = omega (arith, mul-le-mul-right {m = suc y} {n = h} w l, suc-mul y w, mul-comm w h)
 
 -- that row as the code lends it
 module _ (cells : List ℕ) (w h y : ℕ) (l : y < h) (n : w * h ≤ length cells) where
   pub lent-width : length (take (y * w + w - y * w) (drop (y * w) cells)) ≡ w
-  lent-width = rw (add-sub-cancel-left (y * w) w) (lent-length cells w y (omega (arith, row-within w h y l)))
+  lent-width = rw (add-sub-cancel-left (y * w) w) (lent-length cells w y (omega (arith, row-fits w h y l)))
 
   pub lent-text : rowIn (take (y * w + w - y * w) (drop (y * w) cells)) ≡ rowText (cellsOf cells w) w y
-  lent-text = rw (add-sub-cancel-left (y * w) w) (lent-row cells w y (omega (arith, row-within w h y l)))
+  lent-text = rw (add-sub-cancel-left (y * w) w) (lent-row cells w y (omega (arith, row-fits w h y l)))
 
   pub lent-below : (k : ℕ) → ((i : ℕ) → i < w * h → getD cells i 0 < k)
       → (i : ℕ) → i < length (take (y * w + w - y * w) (drop (y * w) cells)) → getD (take (y * w + w - y * w) (drop (y * w) cells)) i 0 < k
   lent-below k b i m =
-      let e = row-within w h y l in
+      let e = row-fits w h y l in
       let fits : y * w + w ≤ length cells = omega arith in
       let m′ : i < w = omega (arith, lent-width) in
       rw (add-sub-cancel-left (y * w) w) (rw (lent-at cells w y fits i m′) (b (y * w + i) (omega arith)))

@@ -15,7 +15,8 @@ use Rattle.rules.specs.Base.{pick, keep, each}
 use Rattle.rules.specs.Plan.{Node, count, depthIn, sizeIn, planOf, nodeAt}
 use Rattle.rules.specs.Levels.{Cell, shown, cellAt, view, inRow}
 use Rattle.rules.proofs.Lists.{length-plan, depth-plan}
-use Rattle.rules.proofs.Keeps.{keep-append, each-add, each-same, kept-mem}
+use Rattle.rules.proofs.Keeps.{keep-append, each-add, kept-mem}
+use Rattle.rules.proofs.Text.{each-same}
 use Rattle.levels.specs.Accepted.{Accepted}
 use Rattle.levels.specs.Cells.{cellIn, nextCell, previousCell}
 use Rattle.levels.specs.Between.{cellOf, cellsBetween}

@@ -14,7 +14,8 @@ use Rattle.rules.specs.Plan.{count, depthIn, sizeIn, planOf, depthAt}
 use Rattle.rules.specs.Levels.{Cell, columnAt, cellAt, view, inRow, children}
 use Rattle.rules.proofs.Lists.{length-plan, depth-plan}
 use Rattle.rules.proofs.Firsts.{first-most, first-holds, first-before}
-use Rattle.rules.proofs.Keeps.{keep-append, each-same}
+use Rattle.rules.proofs.Keeps.{keep-append}
+use Rattle.rules.proofs.Text.{each-same}
 use Rattle.levels.specs.Accepted.{Accepted}
 use Rattle.levels.specs.Cells.{cellIn, nextCell}
 use Rattle.levels.specs.Between.{cellOf, cellsBetween, subtreeEnd, trueChildren}

@@ -25,11 +25,11 @@ use Rattle.marks.specs.Whole.{markAt, indexAt}
 use Rattle.marks.specs.Row.{drawn, digit, endBy, whiteSpace}
 use Rattle.marks.proofs.Places.{Proper}
 use Rattle.marks.proofs.Plans.{Rising, proper}
-use Rattle.marks.proofs.Digits.{digits-some, digits-seen}
+use Rattle.rules.proofs.Digits.{digits-some, digits-seen}
 use Rattle.marks.proofs.Joints.{and-split}
 use Rattle.marks.proofs.Margin.{axis-mark}
 use Rattle.marks.proofs.Reading.{wide-low, column-wide}
-use Rattle.marks.proofs.Scalars.{points-scalar}
+use Rattle.rules.proofs.Scalars.{points-scalar}
 use Rattle.marks.proofs.Back.{cell-from, rows-few, proper-rising}
 use Rattle.marks.proofs.Same.{view-same}
 use Rattle.marks.proofs.Wired.{picture-same}

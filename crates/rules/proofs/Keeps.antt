@@ -56,8 +56,3 @@ module _ {A : Type 0} where
   each-add f n zero = rw (add-zero n) (sym (append-nil (each f n)))
   each-add f n (suc m) =
       rw (add-suc n m) (ap (λ (l : List A). l ++ f (n + m)) (each-add f n m) ∙ append-assoc (each f n) (each (λ k. f (n + k)) m) (f (n + m)))
-
-  pub each-same : (f g : ℕ → List A) (n : ℕ) → ((k : ℕ) → k < n → f k ≡ g k) → each f n ≡ each g n
-  unfolding each
-  each-same f g zero h = refl
-  each-same f g (suc n) h = rw (each-same f g n (λ k l. h k (omega arith)), h n (omega arith))

@@ -83,21 +83,21 @@ module _ (T B canvas₀ out : List ℕ) (ok : done (checked true T B) ≡ true) 
   unfolding afterCells inRoom drawing canvasAfter outAfter pick done number
   short-room l m h =
       let e : answer length boxes T B (length canvas₀) (length out) ≡ Answer.Room bytes =
-          past ∙ rw (le-ltb mostCells needed l, le-ltb (length canvas₀) needed m, lt-ltb (length out) bytes h) in
+      past ∙ rw (le-ltb mostCells needed l, le-ltb (length canvas₀) needed m, lt-ltb (length out) bytes h) in
       record { answered = rw e; canvas-left = rw e; out-left = rw e }
 
   pub finished : needed ≤ mostCells → needed ≤ length canvas₀ → bytes ≤ length out
       → Drawn T B canvas₀ out
-        (record {
-          answer = Answer.Done bytes;
-          width = canvasWidth length (view (planOf T B));
-          height = canvasHeight (view (planOf T B));
-          untitled = untitled (planOf T B);
-        })
-        (laid (canvas length boxes (planOf T B)) canvas₀)
-        (laid (text length boxes (planOf T B)) out)
+      (record {
+        answer = Answer.Done bytes;
+        width = canvasWidth length (view (planOf T B));
+        height = canvasHeight (view (planOf T B));
+        untitled = untitled (planOf T B);
+      })
+      (laid (canvas length boxes (planOf T B)) canvas₀)
+      (laid (text length boxes (planOf T B)) out)
   unfolding afterCells inRoom drawing canvasAfter outAfter pick done number
   finished l m h =
       let e : answer length boxes T B (length canvas₀) (length out) ≡ Answer.Done bytes =
-          past ∙ rw (le-ltb mostCells needed l, le-ltb (length canvas₀) needed m, le-ltb (length out) bytes h) in
+      past ∙ rw (le-ltb mostCells needed l, le-ltb (length canvas₀) needed m, le-ltb (length out) bytes h) in
       record { answered = rw e; canvas-left = rw e; out-left = rw e }

@@ -6,7 +6,8 @@ use lib.ListN.{length, take, drop, length-append}
 use Rattle.rules.specs.Base.{each}
 use Rattle.rules.specs.Drawing.{textOf, rowText}
 use Rattle.canvas.specs.Emit.{cellsOf}
-use Rattle.canvas.proofs.EmitText.{row-within, lent-width, lent-text, text-next, text-room, text-size}
+use Rattle.canvas.proofs.Lent.{row-fits}
+use Rattle.canvas.proofs.EmitText.{lent-width, lent-text, text-next, text-room, text-size}
 use borrow.Author.Needs.{needs}
 use Rattle.canvas.proofs.emit.text_bytes.Statement.{statement}
 use Rattle.canvas.proofs.emit.text_bytes.Tie as tie
@@ -22,13 +23,13 @@ unfolding textOf each
 loop-holds c = (search needs, refl)
 
 mul-from : tie.Need-mul-from Inv-loop μ-loop
-mul-from c = record { fits = omega (arith, row-within (c .before .before .before .args .width) (c .before .before .before .args .height) (c .before .loop .y) (search needs)) }
+mul-from c = record { fits = omega (arith, row-fits (c .before .before .before .args .width) (c .before .before .before .args .height) (c .before .loop .y) (search needs)) }
 
 add-to : tie.Need-add-to Inv-loop μ-loop
-add-to c = record { fits = omega (arith, row-within (c .before .before .before .args .width) (c .before .before .before .args .height) (c .before .loop .y) (search needs)) }
+add-to c = record { fits = omega (arith, row-fits (c .before .before .before .args .width) (c .before .before .before .args .height) (c .before .loop .y) (search needs)) }
 
 mul-row-bytes : tie.Need-mul-row-bytes Inv-loop μ-loop
-mul-row-bytes c = record { fits = omega (arith, row-within (c .before .before .before .args .width) (c .before .before .before .args .height) (c .before .loop .y) (search needs)) }
+mul-row-bytes c = record { fits = omega (arith, row-fits (c .before .before .before .args .width) (c .before .before .before .args .height) (c .before .loop .y) (search needs)) }
 
 sub-row-bytes : tie.Need-sub-row-bytes Inv-loop μ-loop
 sub-row-bytes c = search needs
@@ -37,7 +38,7 @@ part-row-bytes-start : tie.Need-part-row-bytes-start Inv-loop μ-loop
 part-row-bytes-start c = search needs
 
 part-row-bytes-end : tie.Need-part-row-bytes-end Inv-loop μ-loop
-part-row-bytes-end c = omega (arith, row-within (c .before .before .before .args .width) (c .before .before .before .args .height) (c .before .loop .y) (search needs))
+part-row-bytes-end c = omega (arith, row-fits (c .before .before .before .args .width) (c .before .before .before .args .height) (c .before .loop .y) (search needs))
 
 row-bytes-requires : tie.Need-row-bytes-requires Inv-loop μ-loop
 row-bytes-requires c κs =
@@ -45,7 +46,7 @@ row-bytes-requires c κs =
     let start = s .before .before in
     let w = start .args .width in
     let h = start .args .height in
-    omega (arith, lent-width (start .args .cells .now) w h (s .loop .y) (search needs) (search needs), row-within w h (s .loop .y) (search needs))
+    omega (arith, lent-width (start .args .cells .now) w h (s .loop .y) (search needs) (search needs), row-fits w h (s .loop .y) (search needs))
 
 add-bytes : tie.Need-add-bytes Inv-loop μ-loop
 add-bytes c =

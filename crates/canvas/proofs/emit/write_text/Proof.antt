@@ -8,7 +8,8 @@ use Rattle.rules.specs.Base.{each}
 use Rattle.rules.specs.Drawing.{textOf, rowText}
 use Rattle.canvas.specs.Emit.{cellsOf}
 use Rattle.canvas.proofs.EmitRow.{stored}
-use Rattle.canvas.proofs.EmitText.{row-within, lent-text, lent-below, text-next, text-room, laid-sets}
+use Rattle.canvas.proofs.Lent.{row-fits}
+use Rattle.canvas.proofs.EmitText.{lent-text, lent-below, text-next, text-room, laid-sets}
 use borrow.Author.Needs.{needs}
 use Rattle.canvas.proofs.emit.write_text.Statement.{statement}
 use Rattle.canvas.proofs.emit.write_text.Tie as tie
@@ -25,13 +26,13 @@ unfolding textOf each
 loop-holds c = (search needs, search needs, refl, refl)
 
 mul-from : tie.Need-mul-from Inv-loop μ-loop
-mul-from c = record { fits = omega (arith, row-within (c .before .before .before .before .args .width) (c .before .before .before .before .args .height) (c .before .loop .y) (search needs)) }
+mul-from c = record { fits = omega (arith, row-fits (c .before .before .before .before .args .width) (c .before .before .before .before .args .height) (c .before .loop .y) (search needs)) }
 
 add-to : tie.Need-add-to Inv-loop μ-loop
-add-to c = record { fits = omega (arith, row-within (c .before .before .before .before .args .width) (c .before .before .before .before .args .height) (c .before .loop .y) (search needs)) }
+add-to c = record { fits = omega (arith, row-fits (c .before .before .before .before .args .width) (c .before .before .before .before .args .height) (c .before .loop .y) (search needs)) }
 
 mul-write-row : tie.Need-mul-write-row Inv-loop μ-loop
-mul-write-row c = record { fits = omega (arith, row-within (c .before .before .before .before .args .width) (c .before .before .before .before .args .height) (c .before .loop .y) (search needs)) }
+mul-write-row c = record { fits = omega (arith, row-fits (c .before .before .before .before .args .width) (c .before .before .before .before .args .height) (c .before .loop .y) (search needs)) }
 
 sub-write-row : tie.Need-sub-write-row Inv-loop μ-loop
 sub-write-row c = search needs
@@ -40,7 +41,7 @@ part-write-row-start : tie.Need-part-write-row-start Inv-loop μ-loop
 part-write-row-start c = search needs
 
 part-write-row-end : tie.Need-part-write-row-end Inv-loop μ-loop
-part-write-row-end c = omega (arith, row-within (c .before .before .before .before .args .width) (c .before .before .before .before .args .height) (c .before .loop .y) (search needs))
+part-write-row-end c = omega (arith, row-fits (c .before .before .before .before .args .width) (c .before .before .before .before .args .height) (c .before .loop .y) (search needs))
 
 write-row-requires : tie.Need-write-row-requires Inv-loop μ-loop
 write-row-requires c κs =
