@@ -1,23 +1,22 @@
 -- What the refusals leave: of an accepted table each depth obeys the rule and is under 32, and each title lies in the title bytes, is short and valid.
 -- And the code's first six refusals are the rules', whatever comes after them.
 use mathlib.Core.Path.{_≡_, refl, sym, ap, _∙_}
-use mathlib.Core.List.{List, []}
-use mathlib.Core.Bool.{Bool, true, false, not, _&&_, _||_, false≢true}
-use Prim.Native.Nat.{ℕ, zero, suc, _+_, _*_, _%_, _≤_, _<_}
+use mathlib.Core.List.{List}
+use mathlib.Core.Bool.{Bool, true, false, not, _&&_, false≢true}
+use Prim.Native.Nat.{ℕ, suc, _+_, _*_, _%_, _≤_, _<_}
 use native.Mathlib.Numerals.{add-one}
 use native.Mathlib.Omega.{arith}
 use lib.Dec.{leb, ltb, eqb}
-use lib.ListN.{length, take, drop, length-take, length-drop}
+use lib.ListN.{length, drop, length-drop}
 use lib.Seq.{length-take-le}
-use borrow.Author.Tests.{eqb-true, eqb-false, leb-true, leb-false, ltb-true, ltb-false, not-false}
+use borrow.Author.Tests.{eqb-true, eqb-false, leb-true, leb-false, ltb-false, not-false}
 use Rattle.rules.specs.Base.{pick, first}
 use Rattle.rules.specs.Utf8.{valid}
 use Rattle.rules.specs.Plan.{Node, count, depthIn, startIn, sizeIn, titleIn, planOf, nodeAt, depthAt, depthRule}
 use Rattle.rules.specs.Numbers.{number, ragged, many, noNode, badDepth, badTitle, badUtf8, firstSuch, afterCount, afterNodes}
 use Rattle.rules.specs.Answers.{done}
 use Rattle.rules.specs.declared.Answer.{Answer}
-use Rattle.rules.proofs.Firsts.{first-most, first-before}
-use Rattle.rules.proofs.Lists.{first-none}
+use Rattle.rules.proofs.Firsts.{first-before}
 use Rattle.levels.specs.Accepted.{checked, Accepted}
 use Rattle.levels.proofs.Plans.{node-plan, depth-whole}
 use Rattle.levels.proofs.Tests.{or-false, and-true, right-title}

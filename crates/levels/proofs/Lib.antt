@@ -8,3 +8,4 @@ pub mod Runs
 pub mod Tests
 pub mod Between
 pub mod Cells
+pub mod Children

@@ -1,14 +1,12 @@
 -- How large a plan inside the limits can be: lines of a title, digits of an index, rows and columns.
 -- Each line has its own bytes of the title and each column its own leaf, so none of them outgrows the table.
-use mathlib.Core.Path.{_≡_, refl, ap, sym, _∙_}
-use mathlib.Core.List.{List, [], _∷_, _++_}
+use mathlib.Core.Path.{_≡_, refl, ap}
+use mathlib.Core.List.{List, [], _∷_}
 use mathlib.Core.Bool.{Bool, true, false}
-use Prim.Native.Nat.{ℕ, suc, zero, _+_, _-_, _/_, _≤_, _<_, max}
-use native.Mathlib.Nat.{not-suc-le-zero}
-use native.Mathlib.Numerals.{add-one}
+use Prim.Native.Nat.{ℕ, suc, zero, _+_, _-_, _≤_, _<_}
 use native.Mathlib.Omega.{arith}
-use lib.Dec.{eqb, ltb}
-use lib.ListN.{length, getD, length-append}
+use lib.Dec.{eqb}
+use lib.ListN.{length}
 use Rattle.rules.specs.Base.{pick, greatest, total}
 use Rattle.rules.specs.Lines.{onto, linesOf, digitsIn, digits}
 use Rattle.rules.specs.Plan.{Node, nodeAt, depthAt}

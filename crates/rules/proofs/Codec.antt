@@ -155,3 +155,12 @@ more-utf8 k r h = go (form k)
     go (two a b q) = rw (q, le-ltb (0xC0 + k / 64) 0x80 (omega arith), lt-ltb (0xC0 + k / 64) 0xE0 (omega arith))
     go (three a b q) = rw (q, le-ltb (0xE0 + k / 4096) 0x80 (omega arith), le-ltb (0xE0 + k / 4096) 0xE0 (omega arith), lt-ltb (0xE0 + k / 4096) 0xF0 (omega arith))
     go (four a q) = rw (q, le-ltb (0xF0 + k / 262144) 0x80 (omega arith), le-ltb (0xF0 + k / 262144) 0xE0 (omega arith), le-ltb (0xF0 + k / 262144) 0xF0 (omega arith))
+
+pub utf8-size : (k : ℕ) → (1 ≤ length (utf8 k)) × (length (utf8 k) ≤ 4)
+utf8-size k = go (form k)
+  where
+    go : Form k → (1 ≤ length (utf8 k)) × (length (utf8 k) ≤ 4)
+    go (one a q) = rw q (omega arith)
+    go (two a b q) = rw q (omega arith)
+    go (three a b q) = rw q (omega arith)
+    go (four a q) = rw q (omega arith)

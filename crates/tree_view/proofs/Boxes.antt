@@ -1,15 +1,21 @@
 -- The box of node k by the nodes' arrays is the rules' box of its cell: the cell has the node's depth, column, lines and longest line.
 use mathlib.Core.Path.{_≡_, refl, sym, ap, _∙_}
 use mathlib.Core.List.{List, [], _∷_}
-use Prim.Native.Nat.{ℕ}
+use mathlib.Core.Bool.{Bool, true, false, not}
+use Prim.Native.Nat.{ℕ, _<_}
 use native.Mathlib.Omega.{arith}
+use lib.Dec.{eqb}
 use lib.ListN.{length}
-use borrow.Author.Tests.{ne-eqb}
 use Rattle.rules.specs.Base.{pick, greatest}
-use Rattle.rules.specs.Plan.{Node, nodeAt, depthAt}
+use Rattle.rules.specs.Plan.{Node, count, depthIn, sizeIn, planOf, nodeAt, depthAt}
 use Rattle.rules.specs.Levels.{Cell, View, shown, columnAt, cellAt, view}
 use Rattle.rules.specs.Measures.{lineCount, longest, cx, cy}
 use Rattle.rules.specs.Drawing.{boxLeft, boxTop, boxRight, boxBottom}
+use Rattle.levels.specs.Accepted.{Accepted}
+use Rattle.levels.specs.Cells.{cellIn}
+use Rattle.levels.specs.Between.{cellOf}
+use Rattle.levels.proofs.Tests.{and-true}
+use Rattle.levels.proofs.Between.{size-plan}
 use Rattle.tree_view.specs.Box.{leftOf, topOf, rightOf, bottomOf}
 use Rattle.tree_view.specs.Measured.{linesAt, longestAt}
 
@@ -30,18 +36,25 @@ module _ (v : View) (c : Cell) where
   unfolding boxBottom boxTop
   box-bottom = refl
 
--- the cell of node k, if its title is not empty
-abbrev pub cellOf : List Node → ℕ → Cell
-cellOf p k = record { row = depthAt p k; column = columnAt p k; title = nodeAt p k .title }
-
 one-greatest : (f : Cell → ℕ) (c : Cell) (cs : List Cell) → cs ≡ c ∷ [] → greatest f cs ≡ f c
 unfolding greatest
 one-greatest f c cs e = rw e (omega arith)
 
-module _ (p : List Node) (k : ℕ) (some : length (nodeAt p k .title) ≡ 0 → ⊥) where
+not-true : (b : Bool) → not b ≡ true → b ≡ false
+not-true true e = sym e
+not-true false e = refl
+
+-- a node that has a cell in a row has a title
+pub titled : {T B : List ℕ} (a : Accepted T B) (i k : ℕ) → k < count T → cellIn T i k ≡ true → eqb (length (shown (nodeAt (planOf T B) k))) 0 ≡ false
+unfolding cellIn
+titled {T} {B} a i k h e =
+    ap (λ n. eqb n 0) (size-plan a k h) ∙ not-true (eqb (sizeIn T k) 0) (and-true (eqb (depthIn T k) i) (not (eqb (sizeIn T k) 0)) e .1)
+
+-- node k has a cell
+module _ (p : List Node) (k : ℕ) (some : eqb (length (shown (nodeAt p k))) 0 ≡ false) where
   pub cell-at : cellAt p k ≡ cellOf p k ∷ []
-  unfolding cellAt shown pick
-  cell-at = rw (ne-eqb (length (nodeAt p k .title)) 0 some)
+  unfolding cellAt pick
+  cell-at = rw some
 
   pub cell-longest : longestAt p k ≡ longest length (cellOf p k)
   unfolding longestAt

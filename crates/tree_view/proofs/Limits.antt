@@ -152,7 +152,7 @@ module _ (p : List Node) (s : Small p) where
   unfolding cx columnCentre halfUp
   cx-le j h = omega (arith, column-offset-le j, width-le j)
 
-  pub cy-le : (i : ℕ) → i < 32 → cy (view p) i ≤ 32 * 1030 + 3
+  pub cy-le : (i : ℕ) → i < 32 → cy (view p) i ≤ 32 * 1030
   unfolding cy rowCentre
   cy-le i h = omega (arith, row-offset-le i, height-le i)
 
@@ -160,7 +160,7 @@ module _ (p : List Node) (s : Small p) where
   unfolding canvasWidth
   canvas-width-le = omega (arith, d-le .1, columns-le, total-le (width length (view p)) 1030 width-le (view p .columns))
 
-  pub canvas-height-le : canvasHeight (view p) ≤ 32 * 1030 + 3
+  pub canvas-height-le : canvasHeight (view p) ≤ 32 * 1030
   unfolding canvasHeight
   canvas-height-le = omega (arith, rows-le, total-le (height (view p)) 1027 height-le (view p .rows))
 

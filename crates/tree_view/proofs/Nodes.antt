@@ -13,6 +13,7 @@ use Rattle.rules.specs.Levels.{Cell, shown, columnAt, cellAt, view, inRow, inCo
 use Rattle.rules.specs.Measures.{lineCount, longest, height, width}
 use Rattle.rules.proofs.Keeps.{keep-append}
 use Rattle.rules.proofs.Bounds.{Small, lines-of}
+use Rattle.levels.specs.Between.{cellOf}
 use Rattle.tree_view.specs.Measured.{linesAt, longestAt}
 use Rattle.tree_view.specs.Sizes.{most}
 
@@ -35,7 +36,7 @@ unfolding greatest keep
 none f t least = omega arith
 
 cells-most : (f key : Cell → ℕ) (p : List Node) (of : ℕ → ℕ)
-    → ((k : ℕ) → key (record { row = depthAt p k; column = columnAt p k; title = shown (nodeAt p k) }) ≡ of k)
+    → ((k : ℕ) → key (cellOf p k) ≡ of k)
     → (least n i : ℕ) → greatest f (keep (λ c. eqb (key c) i) (each (cellAt p) n)) + least ≡ most of (λ k. greatest f (cellAt p k)) least n i
 unfolding each cellAt most
 cells-most f key p of q least zero i = none f (λ c. eqb (key c) i) least
@@ -43,7 +44,7 @@ cells-most f key p of q least (suc n) i =
     let t : Cell → Bool = λ c. eqb (key c) i in
     rw (← cells-most f key p of q least n i, keep-append t (each (cellAt p) n) (cellAt p n), greatest-append f (keep t (each (cellAt p) n)) (keep t (cellAt p n)))
     (asked (eqb (length (shown (nodeAt p n))) 0) (eqb (of n) i) t f
-    (record { row = depthAt p n; column = columnAt p n; title = shown (nodeAt p n) }) (greatest f (keep t (each (cellAt p) n))) least
+    (cellOf p n) (greatest f (keep t (each (cellAt p) n))) least
     (ap (λ k. eqb k i) (q n)))
 
 pub width-most : (p : List Node) (j : ℕ) → width length (view p) j ≡ most (columnAt p) (longestAt p) 6 (length p) j

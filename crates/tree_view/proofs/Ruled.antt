@@ -8,7 +8,7 @@ use lib.ListN.{length, getD, replicate}
 use Rattle.rules.specs.Base.{halfUp, total}
 use Rattle.rules.specs.Plan.{Node, depthAt, depthIn}
 use Rattle.rules.specs.Levels.{View, columnAt, rowsOf, columnsOf, view}
-use Rattle.rules.specs.Measures.{d, height, rowOffset, rowCentre, canvasHeight, cy, width, columnOffset, columnCentre, canvasWidth, cx}
+use Rattle.rules.specs.Measures.{d, height, rowOffset, rowCentre, canvasHeight, cy, width, columnOffset, columnCentre, canvasWidth, cx, area}
 use Rattle.rules.proofs.Columns.{offset-total}
 use Rattle.rules.proofs.Bounds.{column-below}
 use Rattle.levels.specs.Filled.{filled}
@@ -45,6 +45,11 @@ view-columns p = refl
 pub view-rows : (p : List Node) → view p .rows ≡ rowsOf p
 unfolding view
 view-rows p = refl
+
+-- the canvas' cells
+pub area-ruled : (v : View) (w h : ℕ) → w ≡ canvasWidth length v → h ≡ canvasHeight v → w * h ≡ area length v
+unfolding area
+area-ruled v w h e q = rw (e, q)
 
 -- n is the number of nodes; the arrays hold each node's column, longest line and lines
 module _ (p : List Node) (n : ℕ) (e : n ≡ length p) where

@@ -1,5 +1,6 @@
 // Rows, columns, boxes and the canvas' size.
 mod cell;
+mod children;
 mod heights;
 mod lines;
 mod size;
@@ -10,6 +11,8 @@ pub use cell::bottom_of;
 pub use cell::frame_of;
 pub use cell::half_up;
 pub use cell::top_of;
+pub use children::Child;
+pub use children::children_columns;
 pub use heights::Rows;
 pub use heights::canvas_height;
 pub use heights::row_centers;
