@@ -2,6 +2,7 @@
 mod connect;
 mod draw;
 mod glyphs;
+mod label;
 mod row;
 
 pub use connect::Gap;
@@ -14,6 +15,18 @@ pub use draw::draw_axis;
 pub use draw::draw_box;
 pub use draw::index;
 pub use draw::symbol;
+pub use glyphs::BOTTOM_LEFT;
+pub use glyphs::BOTTOM_RIGHT;
+pub use glyphs::CORNER;
+pub use glyphs::HORIZONTAL;
+pub use glyphs::TEE_DOWN;
+pub use glyphs::TEE_UP;
+pub use glyphs::TOP_LEFT;
+pub use glyphs::TOP_RIGHT;
+pub use glyphs::VERTICAL;
+pub use glyphs::VOID;
+pub use label::draw_label_centered;
 pub use row::figures;
 pub use row::fill;
+pub use row::letters;
 pub use row::put;

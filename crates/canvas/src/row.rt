@@ -1,8 +1,10 @@
 // One row of the canvas: what lies beyond its end is dropped.
 ghost use mathlib.Core.Path.{_≡_};
+ghost use mathlib.Core.Bool.{true};
 ghost use Prim.Native.Nat.{_+_, _-_, _≤_, _<_, min, max};
 ghost use lib.ListN.{length, set, replicate};
 ghost use lib.Seq.{sets};
+ghost use Rattle.rules.specs.Utf8.{valid, points};
 ghost use Rattle.rules.specs.Lines.{digits};
 
 // Where n marks from a on stop, in a row that ends at `end`.
@@ -38,6 +40,53 @@ pub fn put(row: &mut [u32], x: usize, mark: u32)
         row[x] = mark;
         return;
     }
+}
+
+// Puts the code points of a valid line from x on, where all have room: no test for each.
+fn letters_fitting(row: &mut [u32], x: usize, line: &[u8])
+    requires { ⌜ (valid (now line) ≡ true) × (x + length (now line) ≤ length (now row)) ⌝ }
+    ensures { λ _. ⌜ now (row .exit) ≡ sets (now (row .entry)) x (points (now (line .entry))) ⌝ }
+{
+    let mut at = 0;
+    let mut k = x;
+    while at < line.len() {
+        let p = text::decode(&line[at..]);
+        row[k] = p.value;
+        at += p.size;
+        k += 1;
+    }
+}
+
+// The same, where some may lie beyond the end.
+fn letters_clipped(row: &mut [u32], x: usize, line: &[u8])
+    requires { ⌜ valid (now line) ≡ true ⌝ }
+    ensures { λ _. ⌜ now (row .exit) ≡ sets (now (row .entry)) x (points (now (line .entry))) ⌝ }
+{
+    let mut at = 0;
+    let mut k = x;
+    while at < line.len() {
+        if row.len() <= k {
+            return;
+        }
+        let p = text::decode(&line[at..]);
+        row[k] = p.value;
+        at += p.size;
+        k += 1;
+    }
+}
+
+// Puts the code points of a valid line from x on.
+pub fn letters(row: &mut [u32], x: usize, line: &[u8])
+    requires { ⌜ valid (now line) ≡ true ⌝ }
+    ensures { λ _. ⌜ now (row .exit) ≡ sets (now (row .entry)) x (points (now (line .entry))) ⌝ }
+{
+    if x <= row.len() {
+        if line.len() <= row.len() - x {
+            letters_fitting(row, x, line);
+            return;
+        }
+    }
+    letters_clipped(row, x, line);
 }
 
 // The mark of an ASCII byte.
