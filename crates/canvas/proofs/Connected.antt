@@ -29,7 +29,7 @@ use Rattle.levels.specs.Nodes.{nodesIn}
 use Rattle.levels.proofs.Walks.{next-from, next-most, next-holds}
 use Rattle.levels.proofs.Between.{row-view, row-none}
 use Rattle.levels.proofs.Cells.{cell-deep, columns-order, row-rises}
-use Rattle.levels.proofs.Nodes.{nodes-mem, nodes-first, nodes-none, cell-there, row-nodes, children-nodes}
+use Rattle.levels.proofs.Nodes.{nodes-mem, nodes-first, nodes-none, nodes-rise, cell-there, row-nodes, children-nodes}
 use Rattle.tree_view.specs.Measured.{linesAt}
 use Rattle.tree_view.proofs.Limits.{bend-row, fits-height, cx-ge, cx-apart, cx-le, cy-le, rows-le}
 use Rattle.tree_view.proofs.Ruled.{view-rows}
@@ -263,7 +263,6 @@ module _ {T B middle lines : List ℕ} (a : Accepted T B) (held : Held T B middl
         let most = next-most T i (count T) (k + 1) (omega arith) in
         let from = next-from T i (count T) (k + 1) in
         let later = next-from T (i + 1) e (k + 1) in
-        let within : (n : ℕ) → k + 1 ≤ n → n < e → n < count T = λ n f l. omega arith in
         elim (decLe e m) [
           | yes g ↦
               (let q : m ≡ e = omega (arith, next-most T (i + 1) e (k + 1) from) in
@@ -272,8 +271,7 @@ module _ {T B middle lines : List ℕ} (a : Accepted T B) (held : Held T B middl
               (let first = nodes-first T (i + 1) (k + 1) e from (omega arith) in
               let has = next-holds T (i + 1) e (k + 1) from (omega arith) in
               let below : Below i (m ∷ nodesIn T (m + 1) e (i + 1)) = λ n s. (let o = nodes-mem T (k + 1) e (i + 1) (rw first s) in (omega (arith, o .below), o .has)) in
-              let right : Right (columnAt (planOf T B) m) (nodesIn T (m + 1) e (i + 1)) =
-              λ n s. (let o = nodes-mem T (m + 1) e (i + 1) s in row-rises a (i + 1) m n has (o .has) (omega (arith, o .from)) (omega (arith, o .below))) in
+              let right : Right (columnAt (planOf T B) m) (nodesIn T (m + 1) e (i + 1)) = nodes-rise a (i + 1) m e most has in
               rw first
               (⊎-elim
               (λ (q : columnAt (planOf T B) k ≡ columnAt (planOf T B) m). joined-straight m (nodesIn T (m + 1) e (i + 1)) below (sym q) (λ n s. omega (arith, right n s)))

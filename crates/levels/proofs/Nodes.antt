@@ -21,7 +21,7 @@ use Rattle.levels.specs.Between.{cellOf, cellsBetween}
 use Rattle.levels.proofs.Tests.{and-true}
 use Rattle.levels.proofs.Walks.{next-from, next-most, next-holds, next-before}
 use Rattle.levels.proofs.Between.{between-nil, between-cons, row-append, row-nil, size-plan, cell-row, row-view}
-use Rattle.levels.proofs.Cells.{children-between}
+use Rattle.levels.proofs.Cells.{row-rises, children-between}
 
 module _ (T : List ℕ) (i : ℕ) where
   -- none is left
@@ -123,3 +123,10 @@ module _ {T B : List ℕ} (a : Accepted T B) where
       let f = next-from T i (count T) (k + 1) in
       children-between a i k h c
       ∙ row-from (i + 1) (nextCell T (count T) (k + 1) i - (k + 1)) (k + 1) (nextCell T (count T) (k + 1) i) (omega arith) l
+
+  -- columns rise along the nodes of a row
+  pub nodes-rise : (i j e : ℕ) → e ≤ count T → cellIn T i j ≡ true → (k : ℕ) → List·Memᴰ k (nodesIn T (j + 1) e i)
+      → columnAt (planOf T B) j < columnAt (planOf T B) k
+  nodes-rise i j e h c k m =
+      let o = nodes-mem T (j + 1) e i m in
+      row-rises a i j k c (o .has) (omega (arith, o .from)) (omega (arith, o .below))
