@@ -260,9 +260,9 @@ pub fn write_text(cells: &[u32], width: usize, height: usize, out: &mut [u8]) ->
     let mut at = 0;
     let mut y = 0;
     while y < height {
-        let from = y * width;
-        let to = from + width;
-        at = write_row(&cells[from..to], out, at);
+        let first = y * width;
+        let after = first + width;
+        at = write_row(&cells[first..after], out, at);
         y += 1;
     }
     at
