@@ -1,8 +1,8 @@
 -- What is written so far is the text of the rows so far.
 use mathlib.Core.Path.{_≡_, refl, ap, _∙_}
-use Prim.Native.Nat.{_≤_, _-_, _+_, _*_}
+use Prim.Native.Nat.{_≤_, _-_}
 use native.Mathlib.Omega.{arith}
-use lib.ListN.{length, take, drop, length-append}
+use lib.ListN.{length, length-append}
 use lib.Seq.{sets}
 use Rattle.rules.specs.Base.{each}
 use Rattle.rules.specs.Drawing.{textOf, rowText}
