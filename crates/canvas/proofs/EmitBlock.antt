@@ -1,16 +1,16 @@
 -- Cells by fours and sixteens: the bytes of sixteen are those of four fours, and a four of plain cells, or of marks ─, is known at sight.
-use mathlib.Core.Path.{_≡_, refl, ap, sym, _∙_}
-use mathlib.Core.List.{List, [], _∷_, _++_}
-use Prim.Native.Nat.{ℕ, suc, zero, _+_, _-_, _≤_, _<_}
+use mathlib.Core.Path.{_≡_, refl, ap, _∙_}
+use mathlib.Core.List.{List, _++_}
+use Prim.Native.Nat.{ℕ, _+_, _-_, _≤_, _<_}
 use native.Mathlib.Nat.{add-zero, add-assoc}
 use native.Mathlib.Omega.{arith}
-use lib.ListN.{length, getD, length-append}
+use lib.ListN.{length, getD}
 use lib.Seq.{sets}
 use Rattle.rules.specs.Base.{each, pick}
 use Rattle.rules.specs.Utf8.{utf8}
 use Rattle.rules.proofs.Chars.{utf8-one}
 use Rattle.rules.proofs.Text.{each-next, each-room, each-rises, each-add}
-use Rattle.canvas.specs.Emit.{rowOf, fourAt, Same, Plain, cellsIn, lineOf, bytesTo, bytesIn}
+use Rattle.canvas.specs.Emit.{rowOf, fourAt, Same, Plain, cellsIn, lineBytes, bytesTo, bytesIn}
 use Rattle.canvas.specs.declared.emit.Four.{Four}
 use Rattle.canvas.proofs.EmitRow.{stored}
 
@@ -51,12 +51,12 @@ module _ (row : List ℕ) (x : ℕ) where
   unfolding bytesIn rowOf each
   plain-four p = rw (add-zero x, utf8-one (getD row x 0) (p .a), utf8-one (getD row (x + 1) 0) (p .b), utf8-one (getD row (x + 2) 0) (p .c), utf8-one (getD row (x + 3) 0) (p .d))
 
-  line-four : Same (fourAt row x) 0x2500 → bytesIn row x 4 ≡ lineOf 4
-  unfolding bytesIn rowOf lineOf each
+  line-four : Same (fourAt row x) 0x2500 → bytesIn row x 4 ≡ lineBytes 4
+  unfolding bytesIn rowOf lineBytes each
   line-four s = rw (add-zero x, s .a, s .b, s .c, s .d)
 
-lines : lineOf 4 ++ lineOf 4 ++ lineOf 4 ++ lineOf 4 ≡ lineOf 16
-unfolding lineOf each utf8 pick
+lines : lineBytes 4 ++ lineBytes 4 ++ lineBytes 4 ++ lineBytes 4 ≡ lineBytes 16
+unfolding lineBytes each utf8 pick
 lines = refl
 
 -- sixteen cells as four fours, all plain or all ─
@@ -75,7 +75,7 @@ module _ (row : List ℕ) (x : ℕ) (a b c d : Four) (ea : a ≡ fourAt row x) (
         ed,
       )
 
-  pub line-sixteen : Same a 0x2500 → Same b 0x2500 → Same c 0x2500 → Same d 0x2500 → bytesIn row x 16 ≡ lineOf 16
+  pub line-sixteen : Same a 0x2500 → Same b 0x2500 → Same c 0x2500 → Same d 0x2500 → bytesIn row x 16 ≡ lineBytes 16
   line-sixteen sa sb sc sd =
       sixteen row x
       ∙ rw (
@@ -87,12 +87,12 @@ module _ (row : List ℕ) (x : ℕ) (a b c d : Four) (ea : a ≡ fourAt row x) (
       lines
 
 -- n marks ─, and the next
-pub line-next : (n : ℕ) → lineOf (n + 1) ≡ lineOf n ++ utf8 0x2500
-unfolding lineOf
+pub line-next : (n : ℕ) → lineBytes (n + 1) ≡ lineBytes n ++ utf8 0x2500
+unfolding lineBytes
 line-next n = each-next (λ k. utf8 0x2500) n
 
-pub line-length : length (lineOf 16) ≡ 48
-unfolding lineOf each utf8 pick
+pub line-length : length (lineBytes 16) ≡ 48
+unfolding lineBytes each utf8 pick
 line-length = refl
 
 pub mark-length : length (utf8 0x2500) ≡ 3

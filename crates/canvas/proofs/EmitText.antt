@@ -1,6 +1,6 @@
 -- The text row by row: each row lies in the cells, what is written of the text never takes more room than all of it, and the whole fits a usize.
-use mathlib.Core.Path.{_≡_, refl, ap, sym, _∙_}
-use mathlib.Core.List.{List, [], _++_}
+use mathlib.Core.Path.{_≡_, _∙_}
+use mathlib.Core.List.{List, _++_}
 use Prim.Native.Nat.{ℕ, suc, _+_, _-_, _*_, _≤_, _<_}
 use native.Mathlib.Nat.{suc-mul, add-sub-cancel-left, mul-comm, mul-le-mul-right, mul-add, mul-one, mul-left-comm}
 use native.Mathlib.Omega.{arith}

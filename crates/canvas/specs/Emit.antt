@@ -61,5 +61,5 @@ abbrev pub cellsIn : Four → List ℕ
 cellsIn f = f .a ∷ f .b ∷ f .c ∷ f .d ∷ []
 
 -- the bytes of n marks ─
-unfoldable pub lineOf : ℕ → List ℕ
-lineOf n = each (λ k. utf8 0x2500) n
+unfoldable pub lineBytes : ℕ → List ℕ
+lineBytes n = each (λ k. utf8 0x2500) n

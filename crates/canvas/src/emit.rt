@@ -8,7 +8,7 @@ ghost use lib.Seq.{sets};
 ghost use Rattle.rules.specs.Base.{laid};
 ghost use Rattle.rules.specs.Utf8.{utf8};
 ghost use Rattle.rules.specs.Drawing.{endOf, textOf};
-ghost use Rattle.canvas.specs.Emit.{cellsOf, rowOf, fourAt, Same, Plain, Over, cellsIn, lineOf, endIn, bytesTo, bytesIn, rowIn};
+ghost use Rattle.canvas.specs.Emit.{cellsOf, rowOf, fourAt, Same, Plain, Over, cellsIn, lineBytes, endIn, bytesTo, bytesIn, rowIn};
 
 // Four cells side by side. (A row is looked at in fours and sixteens, which the compiler keeps in wide registers.)
 pub struct Four {
@@ -173,7 +173,7 @@ fn put_plain(a: Four, b: Four, c: Four, d: Four, out: &mut [u8], at: usize) -> u
 // Writes sixteen marks ─, and answers the place after them.
 fn put_line(out: &mut [u8], at: usize) -> usize
     requires { ⌜ at + 48 ≤ length (now out) ⌝ }
-    ensures { λ r. ⌜ (r ≡ at + 48) × (now (out .exit) ≡ sets (now (out .entry)) at (lineOf 16)) ⌝ }
+    ensures { λ r. ⌜ (r ≡ at + 48) × (now (out .exit) ≡ sets (now (out .entry)) at (lineBytes 16)) ⌝ }
 {
     let mut to = at;
     let mut k = 0usize;
@@ -260,9 +260,9 @@ pub fn write_text(cells: &[u32], width: usize, height: usize, out: &mut [u8]) ->
     let mut at = 0;
     let mut y = 0;
     while y < height {
-        let from = y * width;
-        let to = from + width;
-        at = write_row(&cells[from..to], out, at);
+        let first = y * width;
+        let after = first + width;
+        at = write_row(&cells[first..after], out, at);
         y += 1;
     }
     at

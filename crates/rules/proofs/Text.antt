@@ -1,6 +1,6 @@
 -- The text of a canvas: it goes by what stands on the canvas alone, and each of its rows has at most four bytes a cell and one more.
 -- Each law is one about `each`, taken twice: along a row, and along the rows.
-use mathlib.Core.Path.{_≡_, refl, ap, sym, _∙_}
+use mathlib.Core.Path.{_≡_, refl, ap, sym}
 use mathlib.Core.List.{List, [], _∷_, _++_, append-assoc, append-nil}
 use mathlib.Core.Bool.{Bool, true, false}
 use Prim.Native.Nat.{ℕ, suc, zero, _+_, _*_, _≤_, _<_}

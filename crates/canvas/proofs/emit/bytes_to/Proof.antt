@@ -2,7 +2,7 @@
 use mathlib.Core.Path.{_≡_, refl, ap}
 use Prim.Native.Nat.{_+_, _≤_, _-_}
 use native.Mathlib.Omega.{arith}
-use lib.ListN.{length, getD, length-append}
+use lib.ListN.{length, length-append}
 use Rattle.rules.specs.Base.{each}
 use Rattle.canvas.specs.Emit.{bytesTo}
 use Rattle.canvas.proofs.EmitRow.{bytes-next, bytes-bound}

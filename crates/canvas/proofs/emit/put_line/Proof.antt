@@ -6,7 +6,7 @@ use lib.ListN.{length, length-append}
 use lib.Seq.{sets}
 use Rattle.rules.specs.Base.{each, pick}
 use Rattle.rules.specs.Utf8.{utf8}
-use Rattle.canvas.specs.Emit.{lineOf}
+use Rattle.canvas.specs.Emit.{lineBytes}
 use Rattle.canvas.proofs.EmitRow.{stored}
 use Rattle.canvas.proofs.EmitBlock.{line-next, mark-length}
 use borrow.Author.Needs.{needs}
@@ -15,13 +15,13 @@ use Rattle.canvas.proofs.emit.put_line.Tie as tie
 
 abbrev Inv-loop : tie.InvT-loop
 Inv-loop out₀ at to₀ k₀ out to k =
-    (k ≤ 16) × (length out ≡ length out₀) × (to ≡ at + 3 * k) × (length (lineOf k) ≡ 3 * k) × (out ≡ sets out₀ at (lineOf k))
+    (k ≤ 16) × (length out ≡ length out₀) × (to ≡ at + 3 * k) × (length (lineBytes k) ≡ 3 * k) × (out ≡ sets out₀ at (lineBytes k))
 
 abbrev μ-loop : tie.MeasureT-loop
 μ-loop out₀ at to₀ k₀ out to k = 16 - k
 
 loop-holds : tie.Need-loop-holds Inv-loop μ-loop
-unfolding lineOf each
+unfolding lineBytes each
 loop-holds c = (search needs, search needs, search needs, refl, refl)
 
 encode-requires : tie.Need-encode-requires Inv-loop μ-loop
@@ -45,7 +45,7 @@ loop-again c =
       search needs,
       omega (arith, p .encode .ensures .0, mark-length),
       omega (arith, mark-length, simp length-append at (ap length next)),
-      rw next (stored (start .args .out .now) (l .out) (p .encode .last .1 .0) (start .args .at) (l .to) (lineOf (l .k)) (utf8 0x2500) (search needs) (l .inv .4) (p .encode .ensures .1)),
+      rw next (stored (start .args .out .now) (l .out) (p .encode .last .1 .0) (start .args .at) (l .to) (lineBytes (l .k)) (utf8 0x2500) (search needs) (l .inv .4) (p .encode .ensures .1)),
     )
 
 same-length : tie.Need-same-length Inv-loop μ-loop

@@ -1,5 +1,5 @@
 -- Sixteen cells that pass a test are known at sight, and so are their bytes; the others are written one by one.
-use mathlib.Core.Path.{_≡_, ap, _∙_}
+use mathlib.Core.Path.{ap}
 use native.Mathlib.Omega.{arith}
 use lib.ListN.{length}
 use Rattle.canvas.proofs.EmitBlock.{plain-sixteen, line-sixteen, line-length}

@@ -1,5 +1,5 @@
 -- The cells up to the row's end, and its 0A.
-use mathlib.Core.Path.{_≡_, ap}
+use mathlib.Core.Path.{ap}
 use native.Mathlib.Omega.{arith}
 use lib.ListN.{length, length-append}
 use Rattle.canvas.proofs.EmitRow.{bytes-bound, end-in, row-ends}

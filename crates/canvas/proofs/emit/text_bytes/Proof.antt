@@ -1,10 +1,10 @@
 -- The bytes so far are those of the rows so far.
-use mathlib.Core.Path.{_≡_, refl, ap, _∙_}
-use Prim.Native.Nat.{_≤_, _-_, _+_, _*_}
+use mathlib.Core.Path.{_≡_, refl, ap}
+use Prim.Native.Nat.{_≤_, _-_}
 use native.Mathlib.Omega.{arith}
-use lib.ListN.{length, take, drop, length-append}
+use lib.ListN.{length, length-append}
 use Rattle.rules.specs.Base.{each}
-use Rattle.rules.specs.Drawing.{textOf, rowText}
+use Rattle.rules.specs.Drawing.{textOf}
 use Rattle.canvas.specs.Emit.{cellsOf}
 use Rattle.canvas.proofs.Lent.{row-fits}
 use Rattle.canvas.proofs.EmitText.{lent-width, lent-text, text-next, text-room, text-size}

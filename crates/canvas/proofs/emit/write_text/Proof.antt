@@ -1,8 +1,8 @@
 -- What is written so far is the text of the rows so far.
 use mathlib.Core.Path.{_≡_, refl, ap, _∙_}
-use Prim.Native.Nat.{_≤_, _-_, _+_, _*_}
+use Prim.Native.Nat.{_≤_, _-_}
 use native.Mathlib.Omega.{arith}
-use lib.ListN.{length, take, drop, length-append}
+use lib.ListN.{length, length-append}
 use lib.Seq.{sets}
 use Rattle.rules.specs.Base.{each}
 use Rattle.rules.specs.Drawing.{textOf, rowText}
@@ -25,11 +25,11 @@ loop-holds : tie.Need-loop-holds Inv-loop μ-loop
 unfolding textOf each
 loop-holds c = (search needs, search needs, refl, refl)
 
-mul-from : tie.Need-mul-from Inv-loop μ-loop
-mul-from c = record { fits = omega (arith, row-fits (c .before .before .before .before .args .width) (c .before .before .before .before .args .height) (c .before .loop .y) (search needs)) }
+mul-first : tie.Need-mul-first Inv-loop μ-loop
+mul-first c = record { fits = omega (arith, row-fits (c .before .before .before .before .args .width) (c .before .before .before .before .args .height) (c .before .loop .y) (search needs)) }
 
-add-to : tie.Need-add-to Inv-loop μ-loop
-add-to c = record { fits = omega (arith, row-fits (c .before .before .before .before .args .width) (c .before .before .before .before .args .height) (c .before .loop .y) (search needs)) }
+add-after : tie.Need-add-after Inv-loop μ-loop
+add-after c = record { fits = omega (arith, row-fits (c .before .before .before .before .args .width) (c .before .before .before .before .args .height) (c .before .loop .y) (search needs)) }
 
 mul-write-row : tie.Need-mul-write-row Inv-loop μ-loop
 mul-write-row c = record { fits = omega (arith, row-fits (c .before .before .before .before .args .width) (c .before .before .before .before .args .height) (c .before .loop .y) (search needs)) }
@@ -96,8 +96,8 @@ write-text-spec =
     Inv-loop
     μ-loop
     loop-holds
-    mul-from
-    add-to
+    mul-first
+    add-after
     mul-write-row
     sub-write-row
     part-write-row-start
