@@ -22,6 +22,9 @@ pub count-whole : (T : List ℕ) (n : ℕ) → 3 * n ≡ length T → count T �
 unfolding count
 count-whole T n e = omega arith
 
+pub whole-count : (T : List ℕ) (n : ℕ) → 3 * n ≡ length T → length T ≡ 3 * count T
+whole-count T n e = omega (arith, count-whole T n e)
+
 module _ (T B : List ℕ) where
   pub node-plan : (k : ℕ) → k < count T → nodeAt (planOf T B) k ≡ nodeIn T B k
   unfolding nodeAt planOf

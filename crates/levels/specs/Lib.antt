@@ -1,3 +1,4 @@
 pub mod Filled
 pub mod Accepted
 pub mod Cells
+pub mod Placed

@@ -1,7 +1,10 @@
 // The plan table: refusals 1 to 6, rows and columns, and the cells of a row.
+mod place;
+mod refuse;
 mod titles;
 mod walk;
 
+pub use place::columns;
 pub use titles::title;
 pub use walk::next_cell;
 pub use walk::previous_cell;

@@ -1,11 +1,17 @@
 // RFC 3629, the lines of a title, and the digits of an index.
 mod encoding;
+mod line;
 mod number;
+mod utf8;
 
 pub use encoding::encode;
 pub use encoding::encoded;
+pub use line::Measured;
+pub use line::measure;
+pub use line::next_line;
 pub use number::digit;
 pub use number::digits;
 pub use number::greater;
 pub use number::longer;
 pub use number::wide;
+pub use utf8::valid;

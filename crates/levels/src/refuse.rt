@@ -1,0 +1,73 @@
+// Refusals 1 to 6, each over all nodes before the next.
+ghost use mathlib.Core.Path.{_≡_};
+ghost use mathlib.Core.List.{[]};
+ghost use Prim.Native.Nat.{ℕ, _≤_, _<_, _+_, _*_};
+ghost use lib.ListN.{length};
+ghost use Rattle.rules.specs.Base.{first};
+ghost use Rattle.rules.specs.Plan.{count, startIn, sizeIn, planOf};
+ghost use Rattle.rules.specs.Numbers.{badDepth, badTitle, badUtf8};
+ghost use Rattle.levels.specs.Accepted.{checked};
+
+// The depth of node k is not one that may follow the node before it, or is too great.
+fn wrong_depth(table: &[u32], k: usize) -> bool
+    requires { ⌜ (k < count (now table)) × (length (now table) ≡ 3 * count (now table)) ⌝ }
+    ensures { λ r. ⌜ r ≡ badDepth (planOf (now (table .entry)) []) k ⌝ }
+{
+    let d = table[3 * k];
+    if k == 0 {
+        return d != 0;
+    }
+    if d < 1 {
+        return true;
+    }
+    if 31 < d {
+        return true;
+    }
+    table[3 * k - 3] < d - 1
+}
+
+// The first node with a wrong depth, or nodes.
+fn bad_depth(table: &[u32], nodes: usize) -> usize
+    requires { ⌜ (nodes ≡ count (now table)) × (length (now table) ≡ 3 * count (now table)) ⌝ }
+    ensures { λ r. ⌜ r ≡ first (badDepth (planOf (now (table .entry)) [])) nodes ⌝ }
+{
+    let mut k = 0;
+    while k < nodes {
+        if wrong_depth(table, k) {
+            return k;
+        }
+        k += 1;
+    }
+    nodes
+}
+
+// The title of node k is longer than 1,024 bytes or does not lie within the title bytes. (No sum is made, so none can wrap.)
+fn wrong_title(table: &[u32], k: usize, titles: &[u8]) -> bool
+    requires { ⌜ 3 * k + 3 ≤ length (now table) ⌝ }
+    ensures { λ r. ⌜ r ≡ badTitle (now (table .entry)) (now (titles .entry)) k ⌝ }
+{
+    let start = text::wide(table[3 * k + 1]);
+    let size = text::wide(table[3 * k + 2]);
+    if rules::MOST_TITLE < size {
+        return true;
+    }
+    if titles.len() < start {
+        return true;
+    }
+    titles.len() - start < size
+}
+
+// The first node with a wrong title, or nodes.
+fn bad_title(table: &[u32], nodes: usize, titles: &[u8]) -> usize
+    requires { ⌜ 3 * nodes ≤ length (now table) ⌝ }
+    ensures { λ r. ⌜ r ≡ first (badTitle (now (table .entry)) (now (titles .entry))) nodes ⌝ }
+{
+    let mut k = 0;
+    while k < nodes {
+        if wrong_title(table, k, titles) {
+            return k;
+        }
+        k += 1;
+    }
+    nodes
+}
