@@ -1,3 +1,5 @@
 pub mod Puts
 pub mod Escapes
 pub mod Names
+pub mod Entries
+pub mod Backward

@@ -1,4 +1,5 @@
 // What is made of a plan: its graphs, and each answer's numbers.
+mod graph;
 mod numbers;
 mod put;
 

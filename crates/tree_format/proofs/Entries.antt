@@ -1,0 +1,55 @@
+-- Entries by their parts: each is put piece by piece, and is as long as its pieces. Names go by a cell's row and column alone, so a node's
+-- name is that of its place.
+use mathlib.Core.Path.{_≡_, refl, ap, sym, _∙_}
+use mathlib.Core.Bool.{Bool, true, false}
+use mathlib.Core.List.{List, [], _∷_, _++_, append-assoc}
+use Prim.Native.Nat.{ℕ, suc, zero, _+_, _*_, _≤_, _<_}
+use native.Mathlib.Omega.{arith}
+use lib.Dec.{leb}
+use lib.ListN.{length, getD, length-append}
+use Rattle.rules.specs.Base.{pick, concat, total}
+use Rattle.rules.specs.Utf8.{utf8}
+use Rattle.rules.specs.Lines.{letters, bytes}
+use Rattle.rules.specs.Plan.{Node, count, depthIn, planOf, depthAt}
+use Rattle.rules.specs.Levels.{Cell, leaf, columnAt}
+use Rattle.rules.specs.Graph.{Form, name, node, edge}
+use Rattle.tree_format.specs.Entries.{lead, spotIn, Ready}
+use Rattle.tree_format.specs.Forms.{spot}
+
+pub lead-parts : (e : List ℕ) → lead e ≡ (10 ∷ 32 ∷ 32 ∷ 32 ∷ 32 ∷ []) ++ e
+unfolding lead bytes concat letters utf8 pick
+lead-parts e = refl
+
+pub edge-parts : (form : Form) (c k : Cell)
+    → lead (edge form c k) ≡ (10 ∷ 32 ∷ 32 ∷ 32 ∷ 32 ∷ []) ++ name form c ++ (32 ∷ 45 ∷ 45 ∷ 32 ∷ []) ++ name form k
+unfolding edge bytes concat letters utf8 pick
+edge-parts form c k =
+    lead-parts (edge form c k) ∙ rw (append-assoc (10 ∷ 32 ∷ 32 ∷ 32 ∷ 32 ∷ []) (name form c ++ (32 ∷ 45 ∷ 45 ∷ 32 ∷ [])) (name form k))
+
+pub length-edge : (form : Form) (c k : Cell) → length (lead (edge form c k)) ≡ 9 + length (name form c) + length (name form k)
+length-edge form c k = rw edge-parts (simp length-append (omega arith))
+
+-- a column is at most the number of nodes before
+one-at-most : (b : Bool) → pick b 1 0 ≤ 1
+unfolding pick
+one-at-most true = omega arith
+one-at-most false = omega arith
+
+pub column-most : (p : List Node) (k : ℕ) → columnAt p k ≤ k
+unfolding columnAt total leaf
+column-most p zero = omega arith
+column-most p (suc k) = omega (arith, column-most p k, one-at-most (leb (depthAt p (k + 1)) (depthAt p k)))
+
+-- the row and the column of a node have few digits
+pub row-small : {T C : List ℕ} → Ready T C → (k : ℕ) → k < count T → getD T (3 * k) 0 < 256
+unfolding depthIn
+row-small r k h = omega (arith, r .depths k h)
+
+pub column-small : {T C : List ℕ} → Ready T C → (k : ℕ) → k < count T → getD C k 0 < 256
+column-small {T} r k h = omega (arith, r .columns k h, r .few, column-most (planOf T []) k)
+
+-- so the name that is put is the node's
+pub name-read : {T C : List ℕ} → Ready T C → (form : Form) (k : ℕ) → k < count T
+    → name form (spotIn T k) ≡ name form (spot (getD T (3 * k) 0) (getD C k 0))
+unfolding depthIn
+name-read r form k h = rw (r .columns k h)
