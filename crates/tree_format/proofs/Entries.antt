@@ -13,7 +13,8 @@ use Rattle.rules.specs.Lines.{letters, bytes}
 use Rattle.rules.specs.Plan.{Node, count, depthIn, planOf, depthAt}
 use Rattle.rules.specs.Levels.{Cell, leaf, columnAt}
 use Rattle.rules.specs.Graph.{Form, name, node, edge}
-use Rattle.tree_format.specs.Entries.{lead, spotIn, Ready}
+use Rattle.levels.proofs.Plans.{column-bytes}
+use Rattle.tree_format.specs.Entries.{lead, spotIn, cellOf, Ready}
 use Rattle.tree_format.specs.Forms.{spot}
 
 pub lead-parts : (e : List ℕ) → lead e ≡ (10 ∷ 32 ∷ 32 ∷ 32 ∷ 32 ∷ []) ++ e
@@ -28,6 +29,20 @@ edge-parts form c k =
 
 pub length-edge : (form : Form) (c k : Cell) → length (lead (edge form c k)) ≡ 9 + length (name form c) + length (name form k)
 length-edge form c k = rw edge-parts (simp length-append (omega arith))
+
+pub node-parts : (form : Form) (c : Cell) → lead (node form c)
+    ≡ (10 ∷ 32 ∷ 32 ∷ 32 ∷ 32 ∷ []) ++ name form c ++ (32 ∷ 91 ∷ 108 ∷ 97 ∷ 98 ∷ 101 ∷ 108 ∷ 61 ∷ 34 ∷ []) ++ concat (form .written) (c .title)
+    ++ (34 ∷ 44 ∷ 32 ∷ 111 ∷ 114 ∷ 100 ∷ 101 ∷ 114 ∷ 105 ∷ 110 ∷ 103 ∷ 61 ∷ 34 ∷ 111 ∷ 117 ∷ 116 ∷ 34 ∷ 93 ∷ [])
+unfolding node bytes concat letters utf8 pick
+node-parts form c = lead-parts (node form c) ∙ simp append-assoc
+
+pub length-node : (form : Form) (c : Cell) → length (lead (node form c)) ≡ 32 + length (name form c) + length (concat (form .written) (c .title))
+length-node form c = rw node-parts (simp length-append (omega arith))
+
+-- the name of a node's cell is that of its place
+pub name-place : (form : Form) (T B : List ℕ) (k : ℕ) → name form (cellOf T B k) ≡ name form (spotIn T k)
+unfolding name
+name-place form T B k = rw (column-bytes T B k)
 
 -- a column is at most the number of nodes before
 one-at-most : (b : Bool) → pick b 1 0 ≤ 1

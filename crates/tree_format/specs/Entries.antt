@@ -9,7 +9,7 @@ use Rattle.rules.specs.Base.{pick, concat}
 use Rattle.rules.specs.Lines.{bytes}
 use Rattle.rules.specs.Plan.{mostNodes, mostLevels, count, depthIn, titleIn, planOf}
 use Rattle.rules.specs.Levels.{Cell, columnAt}
-use Rattle.rules.specs.Graph.{Form, edge}
+use Rattle.rules.specs.Graph.{Form, node, edge}
 use Rattle.levels.specs.Cells.{cellIn}
 use Rattle.tree_format.specs.Forms.{spot}
 
@@ -36,6 +36,10 @@ edgeIn form T k m = lead (edge form (spotIn T k) (spotIn T m))
 
 unfoldable pub edgesIn : Form → List ℕ → ℕ → List ℕ → List ℕ
 edgesIn form T k ms = concat (edgeIn form T k) ms
+
+-- the entry of node k, with what stands before it
+abbrev pub nodeIn : Form → List ℕ → List ℕ → ℕ → List ℕ
+nodeIn form T B k = lead (node form (cellOf T B k))
 
 -- a table of whole nodes, few enough and not too deep, and C the columns of its nodes
 pub record Ready (T C : List ℕ) : Type 0 where

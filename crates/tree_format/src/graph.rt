@@ -4,9 +4,10 @@ ghost use Prim.Native.Nat.{_+_, _<_, _≤_, _^_};
 ghost use lib.ListN.{length};
 ghost use Rattle.rules.specs.Plan.{count, depthIn};
 ghost use Rattle.rules.specs.Graph.{name};
+ghost use Rattle.levels.specs.Accepted.{Accepted};
 ghost use Rattle.tree_format.specs.Put.{Put};
 ghost use Rattle.tree_format.specs.Forms.{formOf};
-ghost use Rattle.tree_format.specs.Entries.{spotIn, edgeIn, edgesIn, backward, Ready};
+ghost use Rattle.tree_format.specs.Entries.{spotIn, edgeIn, edgesIn, nodeIn, backward, Ready};
 
 // Puts the name of node k.
 fn name_of(
@@ -68,4 +69,25 @@ fn edges(
         m = levels::previous_cell(table, k, m, depth);
     }
     to
+}
+
+// Puts the entry of node k, with what stands before an entry.
+fn node(
+    out: &mut [u8],
+    at: usize,
+    table: &[u32],
+    titles: &[u8],
+    column: &[u32; 256],
+    k: usize,
+    fenced: bool,
+) -> usize
+    requires { ⌜ Accepted (now table) (now titles) × Ready (now table) (now column) ⌝ }
+    requires { ⌜ (k < count (now table)) × (at + length (nodeIn (formOf fenced) (now table) (now titles) k) < 2 ^ 64) ⌝ }
+    ensures { λ r. ⌜ Put (nodeIn (formOf fenced) (now (table .entry)) (now (titles .entry)) k) at (now (out .entry)) (now (out .exit)) r ⌝ }
+{
+    let a = put::bytes(out, at, b"\n    ");
+    let b = name_of(out, a, table, column, k, fenced);
+    let c = put::bytes(out, b, b" [label=\"");
+    let d = put::shown(out, c, levels::title(table, k, titles), fenced);
+    put::bytes(out, d, b"\", ordering=\"out\"]")
 }
