@@ -20,15 +20,7 @@ use Rattle.rules.proofs.Firsts.{first-most, first-before}
 use Rattle.rules.proofs.Lists.{first-none}
 use Rattle.levels.specs.Accepted.{checked, Accepted}
 use Rattle.levels.proofs.Plans.{node-plan, depth-whole}
-
--- tests that are joined
-pub or-false : (a b : Bool) → (a || b) ≡ false → (a ≡ false) × (b ≡ false)
-or-false true b e = absurd (false≢true (sym e))
-or-false false b e = (refl, e)
-
-pub and-true : (a b : Bool) → (a && b) ≡ true → (a ≡ true) × (b ≡ true)
-and-true true b e = (refl, e)
-and-true false b e = absurd (false≢true e)
+use Rattle.levels.proofs.Tests.{or-false, and-true, right-title}
 
 -- the depth rule in numbers
 rule-first : (p : List Node) → depthRule 1 p 0 ≡ true → depthAt p 0 ≡ 0
@@ -48,12 +40,6 @@ module _ {T B : List ℕ} (a : Accepted T B) where
       let b = or-false (not (depthRule 1 (planOf T B) k)) (leb 32 (depthAt (planOf T B) k)) (a .depths k h) in
       (not-false (depthRule 1 (planOf T B) k) (b .0), leb-false 32 (depthAt (planOf T B) k) (b .1))
 
-  good-title : (k : ℕ) → k < count T → (startIn T k + sizeIn T k ≤ length B) × (sizeIn T k ≤ 1024)
-  unfolding badTitle
-  good-title k h =
-      let b = or-false (ltb (length B) (startIn T k + sizeIn T k)) (ltb 1024 (sizeIn T k)) (a .titles k h) in
-      (ltb-false (length B) (startIn T k + sizeIn T k) (b .0), ltb-false 1024 (sizeIn T k) (b .1))
-
   -- depths
   pub depth-small : (k : ℕ) → k < count T → depthIn T k < 32
   depth-small k h = omega (arith, good-depth k h .1, depth-whole T B (a .whole) k)
@@ -68,10 +54,10 @@ module _ {T B : List ℕ} (a : Accepted T B) where
 
   -- titles
   pub title-fits : (k : ℕ) → k < count T → startIn T k + sizeIn T k ≤ length B
-  title-fits k h = good-title k h .0
+  title-fits k h = right-title T B k (a .titles k h) .0
 
   pub title-short : (k : ℕ) → k < count T → sizeIn T k ≤ 1024
-  title-short k h = good-title k h .1
+  title-short k h = right-title T B k (a .titles k h) .1
 
   pub title-length : (k : ℕ) → k < count T → length (titleIn T B k) ≡ sizeIn T k
   unfolding titleIn

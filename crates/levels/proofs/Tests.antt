@@ -1,16 +1,30 @@
--- The tests of refusals 4 and 5 as the code makes them, one comparison at a time, on plain numbers.
+-- The tests of refusals 4 to 6 as the code makes them, one comparison at a time, on plain numbers.
 use mathlib.Core.Path.{_≡_, refl, sym, ap, _∙_}
 use mathlib.Core.List.{List, []}
-use mathlib.Core.Bool.{Bool, true, false, not, _&&_, _||_}
-use Prim.Native.Nat.{ℕ, zero, suc, _+_, _-_, _*_, _≤_, _<_}
+use mathlib.Core.Bool.{Bool, true, false, not, _&&_, _||_, false≢true}
+use Prim.Native.Nat.{ℕ, zero, suc, _+_, _-_, _*_, _/_, _%_, _≤_, _<_}
 use native.Mathlib.Decide.{decLe}
 use native.Mathlib.Omega.{arith}
 use lib.Dec.{leb, ltb, eqb}
 use lib.ListN.{length, getD}
-use borrow.Author.Tests.{lt-ltb, le-ltb, le-leb, lt-leb, eq-eqb, ne-eqb}
-use Rattle.rules.specs.Plan.{Node, count, depthIn, startIn, sizeIn, planOf, depthAt, depthRule}
-use Rattle.rules.specs.Numbers.{badDepth, badTitle}
-use Rattle.levels.proofs.Plans.{depth-whole}
+use borrow.Author.Tests.{lt-ltb, le-ltb, le-leb, lt-leb, eq-eqb, ne-eqb, ltb-false}
+use Rattle.rules.specs.Plan.{Node, count, depthIn, startIn, sizeIn, titleIn, planOf, depthAt, depthRule}
+use Rattle.rules.specs.Utf8.{valid}
+use Rattle.rules.specs.Base.{pick, first}
+use Rattle.rules.specs.Numbers.{ragged, many, noNode, badDepth, badTitle, badUtf8, firstSuch, afterCount, afterNodes}
+use Rattle.rules.specs.declared.Answer.{Answer}
+use Rattle.rules.proofs.Firsts.{first-same}
+use Rattle.levels.specs.Accepted.{checked}
+use Rattle.levels.proofs.Plans.{node-plan, depth-whole, depth-bytes}
+
+-- tests that are joined
+pub or-false : (a b : Bool) → (a || b) ≡ false → (a ≡ false) × (b ≡ false)
+or-false true b e = absurd (false≢true (sym e))
+or-false false b e = (refl, e)
+
+pub and-true : (a b : Bool) → (a && b) ≡ true → (a ≡ true) × (b ≡ true)
+and-true true b e = (refl, e)
+and-true false b e = absurd (false≢true e)
 
 -- either test holds whatever the first is, if the second does
 or-right : (a b : Bool) → b ≡ true → (a || b) ≡ true
@@ -82,3 +96,72 @@ module _ (T B : List ℕ) (k : ℕ) where
         | yes s ↦ rw (lt-ltb (length B) (startIn T k + sizeIn T k) (omega arith), lt-ltb (length B - startIn T k) (sizeIn T k) s)
         | no s ↦ rw (le-ltb (length B) (startIn T k + sizeIn T k) (omega arith), le-ltb (length B - startIn T k) (sizeIn T k) (omega arith))
       ])
+
+  -- and a title that is not so lies within the title bytes and is short
+  pub right-title : badTitle T B k ≡ false → (startIn T k + sizeIn T k ≤ length B) × (sizeIn T k ≤ 1024)
+  unfolding badTitle
+  right-title e =
+      let b = or-false (ltb (length B) (startIn T k + sizeIn T k)) (ltb 1024 (sizeIn T k)) e in
+      (ltb-false (length B) (startIn T k + sizeIn T k) (b .0), ltb-false 1024 (sizeIn T k) (b .1))
+
+-- 6 UTF8 is asked of the title that lies in the title bytes
+pub wrong-bytes : (T B : List ℕ) (k : ℕ) → k < count T → badUtf8 (planOf T B) k ≡ not (valid (titleIn T B k))
+unfolding badUtf8
+wrong-bytes T B k h = ap (λ (n : Node). not (valid (n .title))) (node-plan T B k h)
+
+-- refusal 4 goes by the table alone
+pub depths-bytes : (T B : List ℕ) (n : ℕ) → first (badDepth (planOf T B)) n ≡ first (badDepth (planOf T [])) n
+unfolding badDepth depthRule
+depths-bytes T B n = first-same (badDepth (planOf T B)) (badDepth (planOf T [])) n (λ k h. same k)
+  where
+    same : (k : ℕ) → badDepth (planOf T B) k ≡ badDepth (planOf T []) k
+    same zero = rw (depth-bytes T B 0)
+    same (suc k) = rw (depth-bytes T B (suc k), depth-bytes T B k)
+
+-- refusals 4 to 6 of n nodes one after another: the first that finds a node is the answer
+module _ (T B : List ℕ) (next : Answer) (n : ℕ) (en : n ≡ count T) where
+  pub stops-depth : (d : ℕ) → d ≡ first (badDepth (planOf T [])) n → d < n → Answer.Depth d ≡ afterNodes T B next
+  unfolding afterNodes firstSuch pick
+  stops-depth d e h = rw (← en, depths-bytes T B n, ← e, lt-ltb d n h)
+
+  module _ (d : ℕ) (ed : d ≡ first (badDepth (planOf T [])) n) (hd : n ≤ d) where
+    pub stops-title : (t : ℕ) → t ≡ first (badTitle T B) n → t < n → Answer.Title t ≡ afterNodes T B next
+    unfolding afterNodes firstSuch pick
+    stops-title t e h = rw (← en, depths-bytes T B n, ← ed, le-ltb d n hd, ← e, lt-ltb t n h)
+
+    module _ (t : ℕ) (et : t ≡ first (badTitle T B) n) (ht : n ≤ t) where
+      pub stops-utf8 : (u : ℕ) → u ≡ first (badUtf8 (planOf T B)) n → u < n → Answer.Utf8 u ≡ afterNodes T B next
+      unfolding afterNodes firstSuch pick
+      stops-utf8 u e h = rw (← en, depths-bytes T B n, ← ed, le-ltb d n hd, ← et, le-ltb t n ht, ← e, lt-ltb u n h)
+
+      pub stops-none : (u : ℕ) → u ≡ first (badUtf8 (planOf T B)) n → n ≤ u → next ≡ afterNodes T B next
+      unfolding afterNodes firstSuch pick
+      stops-none u e h = rw (← en, depths-bytes T B n, ← ed, le-ltb d n hd, ← et, le-ltb t n ht, ← e, le-ltb u n h)
+
+-- refusals 1 to 3
+module _ (some : Bool) (T B : List ℕ) where
+  pub stops-ragged : (length T % 3 ≡ 0 → ⊥) → Answer.Ragged ≡ checked some T B
+  unfolding checked afterCount ragged pick
+  stops-ragged h = rw (ne-eqb (length T % 3) 0 h)
+
+  module _ (w : length T % 3 ≡ 0) where
+    pub stops-many : 256 < length T / 3 → Answer.Many ≡ checked some T B
+    unfolding checked afterCount ragged many count pick
+    stops-many h = rw (eq-eqb (length T % 3) 0 w, lt-ltb 256 (length T / 3) h)
+
+    module _ (f : length T / 3 ≤ 256) where
+      pub stops-empty : some ≡ true → length T / 3 ≡ 0 → Answer.None ≡ checked some T B
+      unfolding checked afterCount ragged many noNode count pick
+      stops-empty e h =
+          let g : some && eqb (length T / 3) 0 ≡ true = rw e (eq-eqb (length T / 3) 0 h) in
+          rw (eq-eqb (length T % 3) 0 w, le-ltb 256 (length T / 3) f, g)
+
+      pub stops-later : (some ≡ true → length T / 3 ≡ 0 → ⊥) → afterNodes T B (Answer.Done 0) ≡ checked some T B
+      unfolding checked afterCount ragged many noNode count pick
+      stops-later h =
+          let g : some && eqb (length T / 3) 0 ≡ false = go some refl in
+          rw (eq-eqb (length T % 3) 0 w, le-ltb 256 (length T / 3) f, g)
+        where
+          go : (b : Bool) → some ≡ b → (b && eqb (length T / 3) 0) ≡ false
+          go true e = ne-eqb (length T / 3) 0 (h e)
+          go false e = refl

@@ -5,8 +5,10 @@ ghost use Prim.Native.Nat.{ℕ, _≤_, _<_, _+_, _*_};
 ghost use lib.ListN.{length};
 ghost use Rattle.rules.specs.Base.{first};
 ghost use Rattle.rules.specs.Plan.{count, startIn, sizeIn, planOf};
-ghost use Rattle.rules.specs.Numbers.{badDepth, badTitle, badUtf8};
+ghost use Rattle.rules.specs.Numbers.{badDepth, badTitle, badUtf8, afterNodes};
 ghost use Rattle.levels.specs.Accepted.{checked};
+use crate::titles::title;
+use rules::Answer;
 
 // The depth of node k is not one that may follow the node before it, or is too great.
 fn wrong_depth(table: &[u32], k: usize) -> bool
@@ -70,4 +72,59 @@ fn bad_title(table: &[u32], nodes: usize, titles: &[u8]) -> usize
         k += 1;
     }
     nodes
+}
+
+// The first node whose title is not valid UTF-8, or nodes.
+fn bad_utf8(table: &[u32], nodes: usize, titles: &[u8]) -> usize
+    requires { ⌜ (nodes ≡ count (now table)) × (length (now table) ≡ 3 * count (now table)) ⌝ }
+    requires { ⌜ ((k : ℕ) → k < nodes → startIn (now table) k + sizeIn (now table) k ≤ length (now titles)) ⌝ }
+    ensures { λ r. ⌜ r ≡ first (badUtf8 (planOf (now (table .entry)) (now (titles .entry)))) nodes ⌝ }
+{
+    let mut k = 0;
+    while k < nodes {
+        if !text::valid(title(table, k, titles)) {
+            return k;
+        }
+        k += 1;
+    }
+    nodes
+}
+
+// Refusals 4 to 6 of a table of so many nodes.
+fn node_refusal(table: &[u32], nodes: usize, titles: &[u8]) -> Answer
+    requires { ⌜ (nodes ≡ count (now table)) × (length (now table) ≡ 3 * count (now table)) ⌝ }
+    ensures { λ r. ⌜ r ≡ afterNodes (now (table .entry)) (now (titles .entry)) (Answer.Done 0) ⌝ }
+{
+    let d = bad_depth(table, nodes);
+    if d < nodes {
+        return Answer::Depth(d);
+    }
+    let t = bad_title(table, nodes, titles);
+    if t < nodes {
+        return Answer::Title(t);
+    }
+    let u = bad_utf8(table, nodes, titles);
+    if u < nodes {
+        return Answer::Utf8(u);
+    }
+    Answer::Done(0)
+}
+
+// The first of refusals 1 to 6, 3 only where `some` asks for a node; Done if there is none.
+pub fn first_refusal(table: &[u32], titles: &[u8], some: bool) -> Answer
+    ensures { λ r. ⌜ r ≡ checked some (now (table .entry)) (now (titles .entry)) ⌝ }
+{
+    if table.len() % 3 != 0 {
+        return Answer::Ragged;
+    }
+    let nodes = table.len() / 3;
+    if rules::MOST_NODES < nodes {
+        return Answer::Many;
+    }
+    if some {
+        if nodes == 0 {
+            return Answer::None;
+        }
+    }
+    node_refusal(table, nodes, titles)
 }

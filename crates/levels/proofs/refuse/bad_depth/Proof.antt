@@ -1,3 +1,4 @@
+-- The invariant: no depth before k is wrong; so the node found is the first.
 use mathlib.Core.Path.{_≡_, ap, sym, _∙_}
 use mathlib.Core.List.{[]}
 use mathlib.Core.Bool.{false}
@@ -10,9 +11,6 @@ use Rattle.rules.proofs.Lists.{first-none, first-hit}
 use borrow.Author.Needs.{needs}
 use Rattle.levels.proofs.refuse.bad_depth.Statement.{statement}
 use Rattle.levels.proofs.refuse.bad_depth.Tie as tie
-use Rattle.levels.proofs.refuse.bad_depth.Reads as reads
-use Rattle.levels.proofs.refuse.bad_depth.Lts as lts
-use Rattle.levels.proofs.refuse.wrong_depth.Reads as wrong-depth-reads
 
 abbrev Inv-loop : tie.InvT-loop
 Inv-loop table nodes k₀ k = (k ≤ nodes) × ((j : ℕ) → j < k → badDepth (planOf table []) j ≡ false)
@@ -20,36 +18,29 @@ Inv-loop table nodes k₀ k = (k ≤ nodes) × ((j : ℕ) → j < k → badDepth
 abbrev μ-loop : tie.MeasureT-loop
 μ-loop table nodes k₀ k = nodes - k
 
--- src/refuse.rt:35:5
 loop-holds : tie.Need-loop-holds Inv-loop μ-loop
 loop-holds c = (search needs, λ j h. absurd (omega arith))
 
--- src/refuse.rt:36:12
 wrong-depth-requires : tie.Need-wrong-depth-requires Inv-loop μ-loop
 wrong-depth-requires c κs = search needs
 
--- src/refuse.rt:37:13
 returns : tie.Need-returns Inv-loop μ-loop
 returns c =
     let s = c .before .before .before .before .before .args in
     let l = c .before .before .before .loop in
     sym (first-hit (badDepth (planOf (s .table .now) [])) (s .nodes) (l .k) (search needs) (sym (c .before .wrong-depth .ensures) ∙ c .if1 .taken) (l .inv .1))
 
--- src/refuse.rt:39:9
 add-k : tie.Need-add-k Inv-loop μ-loop
 add-k c = search needs
 
--- src/refuse.rt:35:5
 loop-less : tie.Need-loop-less Inv-loop μ-loop
 loop-less c = search needs
 
--- src/refuse.rt:35:5
 loop-again : tie.Need-loop-again Inv-loop μ-loop
 loop-again c =
     let l = c .before .before .before .loop in
     (search needs, below-more _ _ (l .inv .1) (sym (c .before .wrong-depth .ensures) ∙ c .if1 .left))
 
--- src/refuse.rt:30:1
 returns-2 : tie.Need-returns-2 Inv-loop μ-loop
 returns-2 c =
     let s = c .before .before .before .args in

@@ -1,3 +1,4 @@
+-- The invariant: no title before k is wrong; so the node found is the first.
 use mathlib.Core.Path.{_≡_, ap, sym, _∙_}
 use mathlib.Core.List.{[]}
 use mathlib.Core.Bool.{false}
@@ -10,9 +11,6 @@ use Rattle.rules.proofs.Lists.{first-none, first-hit}
 use borrow.Author.Needs.{needs}
 use Rattle.levels.proofs.refuse.bad_title.Statement.{statement}
 use Rattle.levels.proofs.refuse.bad_title.Tie as tie
-use Rattle.levels.proofs.refuse.bad_title.Reads as reads
-use Rattle.levels.proofs.refuse.bad_title.Lts as lts
-use Rattle.levels.proofs.refuse.wrong_title.Reads as wrong-title-reads
 
 abbrev Inv-loop : tie.InvT-loop
 Inv-loop table nodes titles k₀ k = (k ≤ nodes) × ((j : ℕ) → j < k → badTitle table titles j ≡ false)
@@ -20,36 +18,29 @@ Inv-loop table nodes titles k₀ k = (k ≤ nodes) × ((j : ℕ) → j < k → b
 abbrev μ-loop : tie.MeasureT-loop
 μ-loop table nodes titles k₀ k = nodes - k
 
--- src/refuse.rt:66:5
 loop-holds : tie.Need-loop-holds Inv-loop μ-loop
 loop-holds c = (search needs, λ j h. absurd (omega arith))
 
--- src/refuse.rt:67:12
 wrong-title-requires : tie.Need-wrong-title-requires Inv-loop μ-loop
 wrong-title-requires c κs = search needs
 
--- src/refuse.rt:68:13
 returns : tie.Need-returns Inv-loop μ-loop
 returns c =
     let s = c .before .before .before .before .before .before .args in
     let l = c .before .before .before .loop in
     sym (first-hit (badTitle (s .table .now) (s .titles .now)) (s .nodes) (l .k) (search needs) (sym (c .before .wrong-title .ensures) ∙ c .if1 .taken) (l .inv .1))
 
--- src/refuse.rt:70:9
 add-k : tie.Need-add-k Inv-loop μ-loop
 add-k c = search needs
 
--- src/refuse.rt:66:5
 loop-less : tie.Need-loop-less Inv-loop μ-loop
 loop-less c = search needs
 
--- src/refuse.rt:66:5
 loop-again : tie.Need-loop-again Inv-loop μ-loop
 loop-again c =
     let l = c .before .before .before .loop in
     (search needs, below-more _ _ (l .inv .1) (sym (c .before .wrong-title .ensures) ∙ c .if1 .left))
 
--- src/refuse.rt:61:1
 returns-2 : tie.Need-returns-2 Inv-loop μ-loop
 returns-2 c =
     let s = c .before .before .before .before .args in

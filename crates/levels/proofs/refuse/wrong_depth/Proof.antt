@@ -1,3 +1,4 @@
+-- Each return is one comparison of the depth rule.
 use mathlib.Core.Path.{_≡_, ap, sym, _∙_}
 use mathlib.Core.List.{[]}
 use Prim.Native.Nat.{suc, _-_, _*_, _+_}
@@ -9,53 +10,40 @@ use Rattle.levels.proofs.Tests.{wrong-first, wrong-low, wrong-deep, wro
 use borrow.Author.Needs.{needs}
 use Rattle.levels.proofs.refuse.wrong_depth.Statement.{statement}
 use Rattle.levels.proofs.refuse.wrong_depth.Tie as tie
-use Rattle.levels.proofs.refuse.wrong_depth.Reads as reads
-use Rattle.levels.proofs.refuse.wrong_depth.Lts as lts
 
--- src/refuse.rt:16:19
 mul-d : tie.Need-mul-d
 mul-d c = search needs
 
--- src/refuse.rt:16:13
 mul-d-2 : tie.Need-mul-d-2
 mul-d-2 c = search needs
 
--- src/refuse.rt:16:13
 shared-slice-read-d : tie.Need-shared-slice-read-d
 shared-slice-read-d c = search needs
 
--- src/refuse.rt:18:9
 returns : tie.Need-returns
 unfolding depthIn
 returns c = let s = c .before .before in sym (wrong-first (s .args .table .now) (s .pre .1) (s .args .k) (c .if1 .taken))
 
--- src/refuse.rt:21:9
 returns-2 : tie.Need-returns-2
 unfolding depthIn
 returns-2 c = let s = c .before .before .before in sym (wrong-low (s .args .table .now) (s .pre .1) (s .args .k) (c .before .if1 .left) (c .if2 .taken))
 
--- src/refuse.rt:24:9
 returns-3 : tie.Need-returns-3
 unfolding depthIn
 returns-3 c = let s = c .before .before .before .before in sym (wrong-deep (s .args .table .now) (s .pre .1) (s .args .k) (c .before .before .if1 .left) (c .if3 .taken))
 
--- src/refuse.rt:26:11
 mul-result : tie.Need-mul-result
 mul-result c = search needs
 
--- src/refuse.rt:26:11
 sub-result : tie.Need-sub-result
 sub-result c = search needs
 
--- src/refuse.rt:26:5
 mul-result-2 : tie.Need-mul-result-2
 mul-result-2 c = search needs
 
--- src/refuse.rt:26:5
 shared-slice-read-result : tie.Need-shared-slice-read-result
 shared-slice-read-result c = search needs
 
--- src/refuse.rt:12:1
 returns-4 : tie.Need-returns-4
 unfolding depthIn
 returns-4 c =

@@ -1,3 +1,4 @@
+-- Each return is one comparison; the last subtracts, so no sum can wrap.
 use mathlib.Core.Path.{_≡_, ap, sym, _∙_}
 use Prim.Native.Nat.{suc, _-_, _*_, _+_}
 use native.Mathlib.Omega.{arith}
@@ -7,69 +8,52 @@ use Rattle.levels.proofs.Tests.{wrong-long, wrong-start, wrong-room}
 use borrow.Author.Needs.{needs}
 use Rattle.levels.proofs.refuse.wrong_title.Statement.{statement}
 use Rattle.levels.proofs.refuse.wrong_title.Tie as tie
-use Rattle.levels.proofs.refuse.wrong_title.Reads as reads
-use Rattle.levels.proofs.refuse.wrong_title.Lts as lts
-use Rattle.text.proofs.wide.Reads as wide-reads
 
--- src/refuse.rt:49:34
 mul-wide : tie.Need-mul-wide
 mul-wide c = search needs
 
--- src/refuse.rt:49:34
 add-wide : tie.Need-add-wide
 add-wide c = search needs
 
--- src/refuse.rt:49:28
 mul-wide-2 : tie.Need-mul-wide-2
 mul-wide-2 c = search needs
 
--- src/refuse.rt:49:28
 shared-slice-read-wide : tie.Need-shared-slice-read-wide
 shared-slice-read-wide c = search needs
 
--- src/refuse.rt:49:9
 wide-requires : tie.Need-wide-requires
 wide-requires c κs = search needs
 
--- src/refuse.rt:50:33
 mul-wide-3 : tie.Need-mul-wide-3
 mul-wide-3 c = search needs
 
--- src/refuse.rt:50:33
 add-wide-2 : tie.Need-add-wide-2
 add-wide-2 c = search needs
 
--- src/refuse.rt:50:27
 mul-wide-4 : tie.Need-mul-wide-4
 mul-wide-4 c = search needs
 
--- src/refuse.rt:50:27
 shared-slice-read-wide-2 : tie.Need-shared-slice-read-wide-2
 shared-slice-read-wide-2 c = search needs
 
--- src/refuse.rt:50:9
 wide-requires-2 : tie.Need-wide-requires-2
 wide-requires-2 c κs = search needs
 
--- src/refuse.rt:52:9
 returns : tie.Need-returns
 unfolding startIn sizeIn
 returns c =
     let s = c .before .before .before .before .before .before .before .args in
     sym (wrong-long (s .table .now) (s .titles .now) (s .k) (search needs))
 
--- src/refuse.rt:55:9
 returns-2 : tie.Need-returns-2
 unfolding startIn sizeIn
 returns-2 c =
     let s = c .before .before .before .before .before .before .before .before .args in
     sym (wrong-start (s .table .now) (s .titles .now) (s .k) (search needs))
 
--- src/refuse.rt:57:5
 sub-result : tie.Need-sub-result
 sub-result c = search needs
 
--- src/refuse.rt:45:1
 returns-3 : tie.Need-returns-3
 unfolding startIn sizeIn
 returns-3 c =
