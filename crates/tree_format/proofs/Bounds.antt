@@ -104,7 +104,7 @@ module _ {T B : List ℕ} (a : Accepted T B) where
         a .few,
         length-plan T B,
         each-most (cellAt (planOf T B)) 1 (length (planOf T B))
-        (λ k h. one-at-most (eqb (length (shown (nodeAt (planOf T B) k))) 0) (record { row = depthAt (planOf T B) k; column = columnAt (planOf T B) k; title = shown (nodeAt (planOf T B) k) })),
+            (λ k h. one-at-most (eqb (length (shown (nodeAt (planOf T B) k))) 0) (record { row = depthAt (planOf T B) k; column = columnAt (planOf T B) k; title = shown (nodeAt (planOf T B) k) })),
       )
 
   -- and in a row no more
@@ -137,7 +137,7 @@ module _ {T B : List ℕ} (a : Accepted T B) where
           length-reverse ks,
           children-most (c .row) (c .column),
           concat-most (λ k. lead (edge (formOf f) c k)) 4096 (reverse ks)
-          (λ k m. edge-most f c k s (children-small (c .row) (c .column) k (mem-reverse ks m))),
+              (λ k m. edge-most f c k s (children-small (c .row) (c .column) k (mem-reverse ks m))),
         ))
 
     entries-most : (c : Cell) → Small c → length (concat lead (entries (formOf f) (view (planOf T B)) c)) ≤ 4096 * 257
@@ -160,14 +160,14 @@ module _ {T B : List ℕ} (a : Accepted T B) where
           concat-most (λ c. concat lead (entries (formOf f) (view (planOf T B)) c)) (4096 * 257) cs (λ c m. entries-most c (row-small i c m)),
         ))
 
-    rows-most : (n : ℕ) → n ≤ 32
+    pub rows-most : (n : ℕ) → n ≤ 32
         → length (concat lead (each (λ i. concat (entries (formOf f) (view (planOf T B))) (inRow (view (planOf T B) .cells) i)) n)) ≤ 4096 * 257 * 256 * 32
     rows-most n h =
         rw (concat-each lead (λ i. concat (entries (formOf f) (view (planOf T B))) (inRow (view (planOf T B) .cells) i)) n)
         (omega (
           arith,
           each-most (λ i. concat lead (concat (entries (formOf f) (view (planOf T B))) (inRow (view (planOf T B) .cells) i))) (4096 * 257 * 256) n
-          (λ i l. row-entries-most i),
+              (λ i l. row-entries-most i),
         ))
 
   -- and there are at most 32 rows

@@ -5,3 +5,4 @@ pub mod Entries
 pub mod Backward
 pub mod Concats
 pub mod Bounds
+pub mod Joined

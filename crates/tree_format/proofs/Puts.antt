@@ -18,6 +18,10 @@ sets-append (x ∷ a) b l at =
     let e : suc at + length a ≡ at + suc (length a) = omega arith in
     sets-append a b (set l at x) (suc at) ∙ rw e
 
+-- nothing is put
+pub idle : (at : ℕ) (l : List ℕ) → Put [] at l l at
+idle at l = record { place = sym (add-zero at); holds = refl }
+
 -- a piece and the next
 pub then : {a b : List ℕ} {at : ℕ} {l m n : List ℕ} {p q : ℕ} → Put a at l m p → Put b p m n q → Put (a ++ b) at l n q
 then {a} {b} {at} {l} x y =

@@ -3,13 +3,13 @@ use mathlib.Core.Path.{_≡_}
 use mathlib.Core.List.{List, [], _∷_, _++_}
 use mathlib.Core.Bool.{_&&_}
 use Prim.Native.Nat.{ℕ, suc, zero, _*_, _≤_, _<_}
-use lib.Dec.{ltb}
+use lib.Dec.{ltb, eqb}
 use lib.ListN.{length, getD}
-use Rattle.rules.specs.Base.{pick, concat}
+use Rattle.rules.specs.Base.{pick, concat, each}
 use Rattle.rules.specs.Lines.{bytes}
-use Rattle.rules.specs.Plan.{mostNodes, mostLevels, count, depthIn, titleIn, planOf}
-use Rattle.rules.specs.Levels.{Cell, columnAt}
-use Rattle.rules.specs.Graph.{Form, node, edge}
+use Rattle.rules.specs.Plan.{Node, mostNodes, mostLevels, count, depthIn, titleIn, planOf}
+use Rattle.rules.specs.Levels.{Cell, columnAt, view, inRow}
+use Rattle.rules.specs.Graph.{Form, node, edge, entries}
 use Rattle.levels.specs.Cells.{cellIn}
 use Rattle.tree_format.specs.Forms.{spot}
 
@@ -40,6 +40,17 @@ edgesIn form T k ms = concat (edgeIn form T k) ms
 -- the entry of node k, with what stands before it
 abbrev pub nodeIn : Form → List ℕ → List ℕ → ℕ → List ℕ
 nodeIn form T B k = lead (node form (cellOf T B k))
+
+-- the entries of row i, and of the rows before n
+unfoldable pub rowEntries : Form → List Node → ℕ → List (List ℕ)
+rowEntries form p i = concat (entries form (view p)) (inRow (view p .cells) i)
+
+unfoldable pub entriesIn : Form → List Node → ℕ → List (List ℕ)
+entriesIn form p n = each (rowEntries form p) n
+
+-- what stands before the last line: 0A and four spaces if no entry followed the 7 bytes of `graph {`
+unfoldable pub gap : ℕ → List ℕ
+gap at = pick (eqb at 7) (bytes "\n    ") []
 
 -- a table of whole nodes, few enough and not too deep, and C the columns of its nodes
 pub record Ready (T C : List ℕ) : Type 0 where

@@ -7,7 +7,7 @@ ghost use Rattle.rules.specs.Graph.{name};
 ghost use Rattle.levels.specs.Accepted.{Accepted};
 ghost use Rattle.tree_format.specs.Put.{Put};
 ghost use Rattle.tree_format.specs.Forms.{formOf};
-ghost use Rattle.tree_format.specs.Entries.{spotIn, edgeIn, edgesIn, nodeIn, backward, Ready};
+ghost use Rattle.tree_format.specs.Entries.{spotIn, edgeIn, edgesIn, nodeIn, backward, gap, Ready};
 
 // Puts the name of node k.
 fn name_of(
@@ -90,4 +90,15 @@ fn node(
     let c = put::bytes(out, b, b" [label=\"");
     let d = put::shown(out, c, levels::title(table, k, titles), fenced);
     put::bytes(out, d, b"\", ordering=\"out\"]")
+}
+
+// Puts what stands for no entry.
+fn no_entry(out: &mut [u8], at: usize) -> usize
+    requires { ⌜ at + length (gap at) < 2 ^ 64 ⌝ }
+    ensures { λ r. ⌜ Put (gap at) at (now (out .entry)) (now (out .exit)) r ⌝ }
+{
+    if at == 7 {
+        return put::bytes(out, at, b"\n    ");
+    }
+    at
 }
