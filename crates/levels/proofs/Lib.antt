@@ -5,3 +5,6 @@ pub mod Empties
 pub mod Accepted
 pub mod Runs
 pub mod Tests
+pub mod Between
+pub mod Cells
+pub mod Children

@@ -72,3 +72,58 @@ module _ (T : List ℕ) (i : ℕ) where
   pub previous-past : (a k : ℕ) → a < k → cellIn T i k ≡ false → previousCell T a (suc k) i ≡ previousCell T a k i
   unfolding previousCell pick
   previous-past a k h c = rw (lt-ltb a k h, c)
+
+  -- the node found from the right lies from `at` on, before the end,
+  pub previous-from : (a e : ℕ) → a ≤ previousCell T a e i
+  unfolding previousCell pick
+  previous-from a zero = omega arith
+  previous-from a (suc k) =
+      elim (decLe (suc a) k) [
+        | yes h ↦ rw (lt-ltb a k h) (go h (previous-from a k) (cellIn T i k))
+        | no h ↦ rw (le-ltb a k (omega arith)) (omega arith)
+      ]
+    where
+      go : a < k → a ≤ previousCell T a k i → (b : Bool) → a ≤ pick b k (previousCell T a k i)
+      go h p true = omega arith
+      go h p false = p
+
+  pub previous-most : (a e : ℕ) → a < e → previousCell T a e i < e
+  unfolding previousCell pick
+  previous-most a zero h = absurd (not-suc-le-zero h)
+  previous-most a (suc k) h =
+      elim (decLe (suc a) k) [
+        | yes g ↦ rw (lt-ltb a k g) (go (previous-most a k g) (cellIn T i k))
+        | no g ↦ rw (le-ltb a k (omega arith)) h
+      ]
+    where
+      go : previousCell T a k i < k → (b : Bool) → pick b k (previousCell T a k i) < suc k
+      go p true = omega arith
+      go p false = omega arith
+
+  -- has a cell unless it is `at`,
+  pub previous-holds : (a e : ℕ) → a < previousCell T a e i → cellIn T i (previousCell T a e i) ≡ true
+  previous-holds a zero h = unfold previousCell in absurd (omega arith)
+  previous-holds a (suc k) h =
+      elim (decLe (suc a) k) [
+        | yes g ↦ go g (λ l. previous-holds a k l) (cellIn T i k) refl
+        | no g ↦ absurd (omega (arith, previous-end a (suc k) (omega arith)))
+      ]
+    where
+      go : a < k → (a < previousCell T a k i → cellIn T i (previousCell T a k i) ≡ true) → (b : Bool) → cellIn T i k ≡ b
+          → cellIn T i (previousCell T a (suc k) i) ≡ true
+      go g ih true e = ap (cellIn T i) (previous-here a k g e) ∙ e
+      go g ih false e = let q = previous-past a k g e in ap (cellIn T i) q ∙ ih (omega arith)
+
+  -- and none after it has one
+  pub previous-after : (a e k : ℕ) → a < k → previousCell T a e i < k → k < e → cellIn T i k ≡ false
+  previous-after a zero k l g h = absurd (not-suc-le-zero h)
+  previous-after a (suc m) k l g h =
+      go (λ p q. previous-after a m k l p q) (cellIn T i m) refl
+    where
+      go : (previousCell T a m i < k → k < m → cellIn T i k ≡ false) → (b : Bool) → cellIn T i m ≡ b → cellIn T i k ≡ false
+      go ih true e = absurd (omega (arith, previous-here a m (omega arith) e))
+      go ih false e =
+          elim (decLe (suc k) m) [
+            | yes s ↦ ih (omega (arith, previous-past a m (omega arith) e)) s
+            | no s ↦ (let q : k ≡ m = omega arith in ap (cellIn T i) q ∙ e)
+          ]

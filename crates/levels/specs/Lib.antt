@@ -2,3 +2,4 @@ pub mod Filled
 pub mod Accepted
 pub mod Cells
 pub mod Placed
+pub mod Between
