@@ -27,16 +27,16 @@ unfolding onward pick
 onward-none T k i m h = rw (le-ltb k m h)
 
 module _ (T : List ℕ) (k i : ℕ) where
-  back-end : (e : ℕ) → e ≤ suc k → backward T k e i ≡ []
+  pub back-end : (e : ℕ) → e ≤ suc k → backward T k e i ≡ []
   unfolding backward pick
   back-end zero h = refl
   back-end (suc m) h = rw (le-ltb k m (omega arith)) (back-end m (omega arith))
 
-  back-here : (m : ℕ) → k < m → cellIn T i m ≡ true → backward T k (suc m) i ≡ m ∷ backward T k m i
+  pub back-here : (m : ℕ) → k < m → cellIn T i m ≡ true → backward T k (suc m) i ≡ m ∷ backward T k m i
   unfolding backward pick
   back-here m h c = rw (lt-ltb k m h, c)
 
-  back-past : (m : ℕ) → k < m → cellIn T i m ≡ false → backward T k (suc m) i ≡ backward T k m i
+  pub back-past : (m : ℕ) → k < m → cellIn T i m ≡ false → backward T k (suc m) i ≡ backward T k m i
   unfolding backward pick
   back-past m h c = rw (lt-ltb k m h, c)
 

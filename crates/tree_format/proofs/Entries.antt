@@ -10,11 +10,13 @@ use lib.ListN.{length, getD, length-append}
 use Rattle.rules.specs.Base.{pick, concat, total}
 use Rattle.rules.specs.Utf8.{utf8}
 use Rattle.rules.specs.Lines.{letters, bytes}
-use Rattle.rules.specs.Plan.{Node, count, depthIn, planOf, depthAt}
-use Rattle.rules.specs.Levels.{Cell, leaf, columnAt}
+use Rattle.rules.specs.Plan.{Node, count, depthIn, titleIn, planOf, depthAt}
+use Rattle.rules.specs.Levels.{Cell, leaf, columnAt, shown}
 use Rattle.rules.specs.Graph.{Form, name, node, edge}
-use Rattle.levels.proofs.Plans.{column-bytes}
-use Rattle.tree_format.specs.Entries.{lead, spotIn, cellOf, Ready}
+use Rattle.levels.proofs.Plans.{node-plan, column-bytes}
+use Rattle.levels.specs.Between.{cellOf}
+use Rattle.rules.proofs.Lists.{depth-plan}
+use Rattle.tree_format.specs.Entries.{lead, spotIn, nodeIn, Ready}
 use Rattle.tree_format.specs.Forms.{spot}
 
 pub lead-parts : (e : List ℕ) → lead e ≡ (10 ∷ 32 ∷ 32 ∷ 32 ∷ 32 ∷ []) ++ e
@@ -40,9 +42,24 @@ pub length-node : (form : Form) (c : Cell) → length (lead (node form c)) ≡ 3
 length-node form c = rw node-parts (simp length-append (omega arith))
 
 -- the name of a node's cell is that of its place
-pub name-place : (form : Form) (T B : List ℕ) (k : ℕ) → name form (cellOf T B k) ≡ name form (spotIn T k)
+pub name-place : (form : Form) (T B : List ℕ) (k : ℕ) → k < count T → name form (cellOf (planOf T B) k) ≡ name form (spotIn T k)
 unfolding name
-name-place form T B k = rw (column-bytes T B k)
+name-place form T B k h = rw (depth-plan T B k h, column-bytes T B k)
+
+-- and its title is the table's
+pub title-read : (T B : List ℕ) (k : ℕ) → k < count T → cellOf (planOf T B) k .title ≡ titleIn T B k
+unfolding shown
+title-read T B k h = ap (λ (n : Node). n .title) (node-plan T B k h)
+
+-- so the node's entry is what the table says
+pub node-read : (form : Form) (T B : List ℕ) (k : ℕ) → k < count T → nodeIn form (planOf T B) k
+    ≡ (10 ∷ 32 ∷ 32 ∷ 32 ∷ 32 ∷ []) ++ name form (spotIn T k) ++ (32 ∷ 91 ∷ 108 ∷ 97 ∷ 98 ∷ 101 ∷ 108 ∷ 61 ∷ 34 ∷ [])
+    ++ concat (form .written) (titleIn T B k) ++ (34 ∷ 44 ∷ 32 ∷ 111 ∷ 114 ∷ 100 ∷ 101 ∷ 114 ∷ 105 ∷ 110 ∷ 103 ∷ 61 ∷ 34 ∷ 111 ∷ 117 ∷ 116 ∷ 34 ∷ 93 ∷ [])
+node-read form T B k h = node-parts form (cellOf (planOf T B) k) ∙ rw (name-place form T B k h, title-read T B k h)
+
+pub length-read : (form : Form) (T B : List ℕ) (k : ℕ) → k < count T
+    → length (nodeIn form (planOf T B) k) ≡ 32 + length (name form (spotIn T k)) + length (concat (form .written) (titleIn T B k))
+length-read form T B k h = length-node form (cellOf (planOf T B) k) ∙ rw (name-place form T B k h, title-read T B k h)
 
 -- a column is at most the number of nodes before
 one-at-most : (b : Bool) → pick b 1 0 ≤ 1

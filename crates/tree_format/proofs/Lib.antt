@@ -6,3 +6,6 @@ pub mod Backward
 pub mod Concats
 pub mod Bounds
 pub mod Joined
+pub mod Rows
+pub mod AllRows
+pub mod Graphs

@@ -7,10 +7,11 @@ use lib.Dec.{ltb, eqb}
 use lib.ListN.{length, getD}
 use Rattle.rules.specs.Base.{pick, concat, each}
 use Rattle.rules.specs.Lines.{bytes}
-use Rattle.rules.specs.Plan.{Node, mostNodes, mostLevels, count, depthIn, titleIn, planOf}
+use Rattle.rules.specs.Plan.{Node, mostNodes, mostLevels, count, depthIn, planOf}
 use Rattle.rules.specs.Levels.{Cell, columnAt, view, inRow}
 use Rattle.rules.specs.Graph.{Form, node, edge, entries}
 use Rattle.levels.specs.Cells.{cellIn}
+use Rattle.levels.specs.Between.{cellOf}
 use Rattle.tree_format.specs.Forms.{spot}
 
 -- an entry with what stands before it: 0A and four spaces
@@ -20,10 +21,6 @@ lead e = bytes "\n    " ++ e
 -- the place of node k, which its name goes by
 abbrev pub spotIn : List ℕ → ℕ → Cell
 spotIn T k = spot (depthIn T k) (columnAt (planOf T []) k)
-
--- the cell of node k
-abbrev pub cellOf : List ℕ → List ℕ → ℕ → Cell
-cellOf T B k = record { row = depthIn T k; column = columnAt (planOf T B) k; title = titleIn T B k }
 
 -- the nodes after k and before e with a cell in row i, the last first
 unfoldable pub backward : List ℕ → ℕ → ℕ → ℕ → List ℕ
@@ -38,8 +35,8 @@ unfoldable pub edgesIn : Form → List ℕ → ℕ → List ℕ → List ℕ
 edgesIn form T k ms = concat (edgeIn form T k) ms
 
 -- the entry of node k, with what stands before it
-abbrev pub nodeIn : Form → List ℕ → List ℕ → ℕ → List ℕ
-nodeIn form T B k = lead (node form (cellOf T B k))
+abbrev pub nodeIn : Form → List Node → ℕ → List ℕ
+nodeIn form p k = lead (node form (cellOf p k))
 
 -- the entries of row i, and of the rows before n
 unfoldable pub rowEntries : Form → List Node → ℕ → List (List ℕ)
@@ -47,6 +44,9 @@ rowEntries form p i = concat (entries form (view p)) (inRow (view p .cells) i)
 
 unfoldable pub entriesIn : Form → List Node → ℕ → List (List ℕ)
 entriesIn form p n = each (rowEntries form p) n
+
+abbrev pub allEntries : Form → List Node → List (List ℕ)
+allEntries form p = entriesIn form p (view p .rows)
 
 -- what stands before the last line: 0A and four spaces if no entry followed the 7 bytes of `graph {`
 unfoldable pub gap : ℕ → List ℕ

@@ -6,9 +6,8 @@ use lib.ListN.{length}
 use Rattle.rules.specs.Base.{concat}
 use Rattle.levels.proofs.Accepted.{title-fits, node-fits}
 use Rattle.tree_format.specs.Forms.{formOf}
-use Rattle.tree_format.specs.Entries.{cellOf}
 use Rattle.tree_format.proofs.Puts.{then}
-use Rattle.tree_format.proofs.Entries.{node-parts, length-node, name-place}
+use Rattle.tree_format.proofs.Entries.{node-read, length-read}
 use Rattle.tree_format.proofs.graph.node.Statement.{statement}
 use Rattle.tree_format.proofs.graph.node.Tie as tie
 
@@ -19,7 +18,7 @@ bytes-requires : tie.Need-bytes-requires
 bytes-requires c κs =
     let s = c .before .before .before .before .before in
     let a = s .args in
-    omega (arith, s .pre .1 .1, length-node (formOf (a .fenced)) (cellOf (a .table .now) (a .titles .now) (a .k)), ap length (name-place (formOf (a .fenced)) (a .table .now) (a .titles .now) (a .k)))
+    omega (arith, s .pre .1 .1, length-read (formOf (a .fenced)) (a .table .now) (a .titles .now) (a .k) (s .pre .1 .0))
 
 name-of-requires : tie.Need-name-of-requires
 name-of-requires c κs =
@@ -28,7 +27,7 @@ name-of-requires c κs =
       s .pre .0 .1,
       (
         s .pre .1 .0,
-        omega (arith, s .pre .1 .1, length-node (formOf (a .fenced)) (cellOf (a .table .now) (a .titles .now) (a .k)), ap length (name-place (formOf (a .fenced)) (a .table .now) (a .titles .now) (a .k))),
+        omega (arith, s .pre .1 .1, length-read (formOf (a .fenced)) (a .table .now) (a .titles .now) (a .k) (s .pre .1 .0)),
       ),
     )
 
@@ -39,7 +38,7 @@ bytes-requires-2 : tie.Need-bytes-requires-2
 bytes-requires-2 c κs =
     let s = c .before .before .before .before .before .before .before .before .before .before .before .before .before .before in
     let a = s .args in
-    omega (arith, s .pre .1 .1, length-node (formOf (a .fenced)) (cellOf (a .table .now) (a .titles .now) (a .k)), ap length (name-place (formOf (a .fenced)) (a .table .now) (a .titles .now) (a .k)))
+    omega (arith, s .pre .1 .1, length-read (formOf (a .fenced)) (a .table .now) (a .titles .now) (a .k) (s .pre .1 .0))
 
 title-requires : tie.Need-title-requires
 title-requires c κs = let s = c .before .before .before .before .before .before .before .before .before .before .before .before .before .before .before .before .before .before in (node-fits (s .pre .0 .0) (s .args .k) (s .pre .1 .0), title-fits (s .pre .0 .0) (s .args .k) (s .pre .1 .0))
@@ -48,7 +47,7 @@ shown-requires : tie.Need-shown-requires
 shown-requires c κs =
     let s = c .before .before .before .before .before .before .before .before .before .before .before .before .before .before .before .before .before .before .before in
     let a = s .args in
-    omega (arith, s .pre .1 .1, length-node (formOf (a .fenced)) (cellOf (a .table .now) (a .titles .now) (a .k)), ap length (name-place (formOf (a .fenced)) (a .table .now) (a .titles .now) (a .k)), ap (λ t. length (concat (formOf (a .fenced) .written) t)) (c .title .ensures))
+    omega (arith, s .pre .1 .1, length-read (formOf (a .fenced)) (a .table .now) (a .titles .now) (a .k) (s .pre .1 .0), ap (λ t. length (concat (formOf (a .fenced) .written) t)) (c .title .ensures))
 
 slice-aggregate-bytes-3 : tie.Need-slice-aggregate-bytes-3
 slice-aggregate-bytes-3 c = search needs
@@ -57,16 +56,17 @@ bytes-requires-3 : tie.Need-bytes-requires-3
 bytes-requires-3 c κs =
     let s = c .before .before .before .before .before .before .before .before .before .before .before .before .before .before .before .before .before .before .before .before .before .before .before .before in
     let a = s .args in
-    omega (arith, s .pre .1 .1, length-node (formOf (a .fenced)) (cellOf (a .table .now) (a .titles .now) (a .k)), ap length (name-place (formOf (a .fenced)) (a .table .now) (a .titles .now) (a .k)), ap (λ t. length (concat (formOf (a .fenced) .written) t)) (c .before .before .before .before .before .title .ensures), c .before .before .before .before .shown .ensures .place, c .before .before .before .before .before .before .before .before .before .bytes2 .ensures .place, c .before .before .before .before .before .before .before .before .before .before .before .before .before .before .name-of .ensures .place, c .before .before .before .before .before .before .before .before .before .before .before .before .before .before .before .before .before .before .bytes .ensures .place)
+    omega (arith, s .pre .1 .1, length-read (formOf (a .fenced)) (a .table .now) (a .titles .now) (a .k) (s .pre .1 .0), ap (λ t. length (concat (formOf (a .fenced) .written) t)) (c .before .before .before .before .before .title .ensures), c .before .before .before .before .shown .ensures .place, c .before .before .before .before .before .before .before .before .before .bytes2 .ensures .place, c .before .before .before .before .before .before .before .before .before .before .before .before .before .before .name-of .ensures .place, c .before .before .before .before .before .before .before .before .before .before .before .before .before .before .before .before .before .before .bytes .ensures .place)
 
 same-length : tie.Need-same-length
 same-length c = search needs
 
 returns : tie.Need-returns
 returns c =
-    let a = c .before .before .before .before .before .before .before .before .before .before .before .before .before .before .before .before .before .before .before .before .before .before .before .before .before .before .before .args in
+    let s = c .before .before .before .before .before .before .before .before .before .before .before .before .before .before .before .before .before .before .before .before .before .before .before .before .before .before .before in
+    let a = s .args in
     let t = rw (c .before .before .before .before .before .before .before .before .title .ensures) at (c .before .before .before .before .before .before .before .shown .ensures) in
-    rw (node-parts (formOf (a .fenced)) (cellOf (a .table .now) (a .titles .now) (a .k)), name-place (formOf (a .fenced)) (a .table .now) (a .titles .now) (a .k))
+    rw (node-read (formOf (a .fenced)) (a .table .now) (a .titles .now) (a .k) (s .pre .1 .0))
     (then (then (then (then (c .before .before .before .before .before .before .before .before .before .before .before .before .before .before .before .before .before .before .before .before .before .bytes .ensures) (c .before .before .before .before .before .before .before .before .before .before .before .before .before .before .before .before .before .name-of .ensures)) (c .before .before .before .before .before .before .before .before .before .before .before .before .bytes2 .ensures)) t) (c .before .before .bytes3 .ensures))
 
 pub node-spec : {M : Type 1} → statement M
