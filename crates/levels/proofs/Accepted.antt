@@ -1,23 +1,23 @@
 -- What the refusals leave: of an accepted table each depth obeys the rule and is under 32, and each title lies in the title bytes, is short and valid.
 -- And the code's first six refusals are the rules', whatever comes after them.
 use mathlib.Core.Path.{_≡_, refl, sym, ap, _∙_}
-use mathlib.Core.List.{List, []}
-use mathlib.Core.Bool.{Bool, true, false, not, _&&_, _||_, false≢true}
-use Prim.Native.Nat.{ℕ, zero, suc, _+_, _*_, _%_, _≤_, _<_}
+use mathlib.Core.List.{List}
+use mathlib.Core.Bool.{Bool, true, false, not, _&&_, false≢true}
+use Prim.Native.Nat.{ℕ, suc, _+_, _*_, _%_, _≤_, _<_}
 use native.Mathlib.Numerals.{add-one}
 use native.Mathlib.Omega.{arith}
 use lib.Dec.{leb, ltb, eqb}
-use lib.ListN.{length, take, drop, length-take, length-drop}
+use lib.ListN.{length, drop, length-drop}
 use lib.Seq.{length-take-le}
-use borrow.Author.Tests.{eqb-true, eqb-false, leb-true, leb-false, ltb-true, ltb-false, not-false}
+use borrow.Author.Tests.{eq-eqb, ne-eqb, le-ltb, eqb-true, eqb-false, leb-true, leb-false, ltb-false, not-false}
+use Rattle.rules.proofs.Lists.{first-none}
 use Rattle.rules.specs.Base.{pick, first}
 use Rattle.rules.specs.Utf8.{valid}
 use Rattle.rules.specs.Plan.{Node, count, depthIn, startIn, sizeIn, titleIn, planOf, nodeAt, depthAt, depthRule}
 use Rattle.rules.specs.Numbers.{number, ragged, many, noNode, badDepth, badTitle, badUtf8, firstSuch, afterCount, afterNodes}
 use Rattle.rules.specs.Answers.{done}
 use Rattle.rules.specs.declared.Answer.{Answer}
-use Rattle.rules.proofs.Firsts.{first-most, first-before}
-use Rattle.rules.proofs.Lists.{first-none}
+use Rattle.rules.proofs.Firsts.{first-before}
 use Rattle.levels.specs.Accepted.{checked, Accepted}
 use Rattle.levels.proofs.Plans.{node-plan, depth-whole}
 use Rattle.levels.proofs.Tests.{or-false, and-true, right-title}
@@ -185,3 +185,26 @@ graph-next T B next h = checked-next false T B next h
 pub graph-stops : (T B : List ℕ) (next : Answer) → done (checked false T B) ≡ false → afterCount T (afterNodes T B next) ≡ checked false T B
 unfolding pick
 graph-stops T B next h = checked-stops false T B next h
+
+-- an accepted table is not refused, if it has a node where some node is asked for
+pub accepted-checked : (some : Bool) {T B : List ℕ} → Accepted T B → (some ≡ true → 0 < count T) → checked some T B ≡ Answer.Done 0
+accepted-checked some {T} {B} a n =
+    checked-chain some T B
+    ∙ through (ragged T) (many T) (some && noNode T) (ltb (D some T B) (count T)) (ltb (K some T B) (count T)) (ltb (U some T B) (count T))
+    (D some T B) (K some T B) (U some T B) (Answer.Done 0)
+    (unfold D K U ragged many noNode in
+    record {
+      ragged-no = rw (eq-eqb (length T % 3) 0 (omega (arith, a .whole)));
+      many-no = le-ltb 256 (count T) (a .few);
+      none-no = go some n;
+      depth-no = none-found (badDepth (planOf T B)) (a .depths);
+      title-no = none-found (badTitle T B) (a .titles);
+      utf8-no = none-found (badUtf8 (planOf T B)) (a .valids);
+    })
+  where
+    go : (s : Bool) → (s ≡ true → 0 < count T) → (s && eqb (count T) 0) ≡ false
+    go true f = ne-eqb (count T) 0 (λ e. absurd (omega (arith, f refl)))
+    go false f = refl
+
+    none-found : (t : ℕ → Bool) → ((k : ℕ) → k < count T → t k ≡ false) → ltb (first t (count T)) (count T) ≡ false
+    none-found t f = le-ltb (first t (count T)) (count T) (omega (arith, first-none t (count T) f))

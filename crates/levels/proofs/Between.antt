@@ -1,20 +1,19 @@
 -- The cells of a run of nodes: runs in parts, the cells of a row of a run found one at a time from either end, and which node a cell belongs to.
 -- A run's cells are those of its first node and of the rest; a node has a cell in a row exactly when `cellIn` says so.
 use mathlib.Core.Path.{_≡_, refl, sym, ap, _∙_}
-use mathlib.Core.List.{List, [], _∷_, _++_, append-assoc, append-nil, List·Memᴰ, List·Memᴰ·append-cases, List·Memᴰ·eq-of-singleton, List·Memᴰ·not-nil}
+use mathlib.Core.List.{List, [], _∷_, _++_, List·Memᴰ, List·Memᴰ·append-cases, List·Memᴰ·eq-of-singleton, List·Memᴰ·not-nil}
 use mathlib.Core.Bool.{Bool, true, false, not, _&&_}
 use mathlib.Core.Logic.{⊎-elim}
 use Prim.Native.Nat.{ℕ, zero, suc, _+_, _-_, _≤_, _<_}
-use native.Mathlib.Nat.{add-zero, not-suc-le-zero}
+use native.Mathlib.Nat.{add-zero}
 use native.Mathlib.Numerals.{add-one}
 use native.Mathlib.Decide.{decLe}
 use native.Mathlib.Omega.{arith}
 use lib.Dec.{eqb}
 use lib.ListN.{length}
-use borrow.Author.Tests.{eqb-true}
 use Rattle.rules.specs.Base.{pick, keep, each}
-use Rattle.rules.specs.Plan.{Node, count, depthIn, sizeIn, titleIn, planOf, nodeAt, depthAt}
-use Rattle.rules.specs.Levels.{Cell, columnAt, shown, cellAt, view, inRow}
+use Rattle.rules.specs.Plan.{Node, count, depthIn, sizeIn, planOf, nodeAt}
+use Rattle.rules.specs.Levels.{Cell, shown, cellAt, view, inRow}
 use Rattle.rules.proofs.Lists.{length-plan, depth-plan}
 use Rattle.rules.proofs.Keeps.{keep-append, each-add, each-same, kept-mem}
 use Rattle.levels.specs.Accepted.{Accepted}
@@ -22,7 +21,7 @@ use Rattle.levels.specs.Cells.{cellIn, nextCell, previousCell}
 use Rattle.levels.specs.Between.{cellOf, cellsBetween}
 use Rattle.levels.proofs.Plans.{node-plan}
 use Rattle.levels.proofs.Accepted.{title-length}
-use Rattle.levels.proofs.Walks.{next-from, next-most, next-holds, next-before, previous-from, previous-most, previous-holds, previous-after}
+use Rattle.levels.proofs.Walks.{next-from, next-holds, next-before, previous-most, previous-holds, previous-after}
 
 -- runs in parts, of any plan
 module _ (p : List Node) where

@@ -1,22 +1,20 @@
 -- The drawn children of a cell are the cells one row deeper of the nodes after it and before the next cell of its row; with no empty title they are
 -- the true children. Columns never fall along the table, and stay only while depths rise, so a range of columns is a range of nodes.
 use mathlib.Core.Path.{_≡_, refl, sym, ap, _∙_}
-use mathlib.Core.List.{List, [], _∷_, _++_, append-assoc, append-nil, List·Memᴰ, List·Memᴰ·head, List·Memᴰ·tail, List·Memᴰ·cases-cons}
+use mathlib.Core.List.{List, [], _∷_, _++_, append-nil, List·Memᴰ, List·Memᴰ·head, List·Memᴰ·tail, List·Memᴰ·cases-cons}
 use mathlib.Core.Bool.{Bool, true, false, not, _&&_, _||_, false≢true}
 use mathlib.Core.Logic.{⊎-elim}
-use Prim.Native.Nat.{ℕ, zero, suc, _+_, _-_, _≤_, _<_}
-use native.Mathlib.Nat.{not-suc-le-zero}
+use Prim.Native.Nat.{ℕ, suc, _+_, _-_, _≤_, _<_}
 use native.Mathlib.Numerals.{add-one}
 use native.Mathlib.Decide.{decLe, ℕ-discrete}
 use native.Mathlib.Omega.{arith}
 use lib.Dec.{leb, ltb, eqb}
-use lib.ListN.{length}
-use borrow.Author.Tests.{lt-ltb, le-ltb, le-leb, lt-leb, eq-eqb, ne-eqb, eqb-true, ltb-true, leb-true, leb-false, not-true}
-use Rattle.rules.specs.Base.{pick, keep, any, each, first, total}
+use borrow.Author.Tests.{lt-ltb, le-ltb, le-leb, lt-leb, eq-eqb, ne-eqb, eqb-true}
+use Rattle.rules.specs.Base.{keep, any, total}
 use Rattle.rules.specs.Plan.{Node, count, depthIn, sizeIn, planOf, depthAt}
-use Rattle.rules.specs.Levels.{Cell, leaf, columnAt, columnsOf, cellAt, view, inRow, nextColumn, children}
+use Rattle.rules.specs.Levels.{Cell, leaf, columnAt, columnsOf, view, inRow, nextColumn, children}
 use Rattle.rules.proofs.Lists.{first-none, first-hit, length-plan, depth-plan}
-use Rattle.rules.proofs.Columns.{column-next, leaf-yes, leaf-no, columns-rise, column-stays, row-apart}
+use Rattle.rules.proofs.Columns.{column-next, leaf-no, columns-rise, column-stays}
 use Rattle.rules.proofs.Keeps.{keep-yes, keep-no, keep-append, keep-none, keep-all}
 use Rattle.levels.specs.Accepted.{Accepted}
 use Rattle.levels.specs.Cells.{cellIn, nextCell}
@@ -24,7 +22,7 @@ use Rattle.levels.specs.Between.{cellOf, cellsBetween}
 use Rattle.levels.proofs.Plans.{depth-past}
 use Rattle.levels.proofs.Tests.{and-true}
 use Rattle.levels.proofs.Walks.{next-from, next-most, next-holds, next-before}
-use Rattle.levels.proofs.Between.{row-split, row-first, row-view, row-of, row-next, row-end, In}
+use Rattle.levels.proofs.Between.{row-split, row-first, row-view, row-of, row-next, row-end}
 
 -- columns along any plan
 module _ (p : List Node) where

@@ -2,16 +2,15 @@
 -- From that node on up to the next cell of the row all depths are less than the row's, since depths rise by one at most.
 use mathlib.Core.Path.{_≡_, refl, sym, ap, _∙_}
 use mathlib.Core.List.{List, [], _∷_, _++_, append-nil}
-use mathlib.Core.Bool.{Bool, true, false, not, _&&_, false≢true}
+use mathlib.Core.Bool.{Bool, true, false, _&&_, false≢true}
 use Prim.Native.Nat.{ℕ, zero, suc, _+_, _-_, _≤_, _<_}
-use native.Mathlib.Numerals.{add-one}
-use native.Mathlib.Decide.{decLe, ℕ-discrete}
+use native.Mathlib.Decide.{decLe}
 use native.Mathlib.Omega.{arith}
 use lib.Dec.{leb, eqb}
 use lib.ListN.{length}
 use borrow.Author.Tests.{eq-eqb, ne-eqb, leb-true, leb-false}
 use Rattle.rules.specs.Base.{pick, keep, each, first}
-use Rattle.rules.specs.Plan.{Node, count, depthIn, sizeIn, planOf, depthAt}
+use Rattle.rules.specs.Plan.{count, depthIn, sizeIn, planOf, depthAt}
 use Rattle.rules.specs.Levels.{Cell, columnAt, cellAt, view, inRow, children}
 use Rattle.rules.proofs.Lists.{length-plan, depth-plan}
 use Rattle.rules.proofs.Firsts.{first-most, first-holds, first-before}
@@ -22,7 +21,7 @@ use Rattle.levels.specs.Between.{cellOf, cellsBetween, subtreeEnd, trueC
 use Rattle.levels.proofs.Accepted.{depth-later}
 use Rattle.levels.proofs.Walks.{next-from, next-most, next-holds, next-before}
 use Rattle.levels.proofs.Between.{cell-row, row-split, row-none}
-use Rattle.levels.proofs.Cells.{cell-depth, cell-deep, children-between}
+use Rattle.levels.proofs.Cells.{cell-deep, children-between}
 
 -- a row of a repetition
 row-each : (f : ℕ → List Cell) (n i : ℕ) → inRow (each f n) i ≡ each (λ q. inRow (f q) i) n

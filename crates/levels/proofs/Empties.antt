@@ -1,14 +1,14 @@
 -- The nodes with empty titles, counted along the table one node at a time; and that this is the rules' number for an accepted table.
 use mathlib.Core.Path.{_≡_, refl, sym, ap, _∙_}
-use mathlib.Core.List.{List, [], _∷_, _++_}
+use mathlib.Core.List.{List, [], _∷_}
 use mathlib.Core.Bool.{Bool, true, false}
-use Prim.Native.Nat.{ℕ, suc, zero, _+_, _≤_, _<_}
+use Prim.Native.Nat.{ℕ, suc, zero, _+_, _≤_}
 use native.Mathlib.Numerals.{add-one}
 use native.Mathlib.Omega.{arith}
 use lib.Dec.{eqb}
 use lib.ListN.{length, length-append}
 use Rattle.rules.specs.Base.{pick, keep, each, total}
-use Rattle.rules.specs.Plan.{Node, count, sizeIn, titleIn, planOf}
+use Rattle.rules.specs.Plan.{Node, count, sizeIn, planOf}
 use Rattle.rules.specs.Answers.{untitled}
 use Rattle.rules.proofs.Keeps.{keep-append}
 use Rattle.levels.specs.Accepted.{Accepted}

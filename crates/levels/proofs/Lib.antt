@@ -8,3 +8,4 @@ pub mod Tests
 pub mod Between
 pub mod Cells
 pub mod Children
+pub mod Bounds

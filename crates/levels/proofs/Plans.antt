@@ -2,14 +2,12 @@
 -- Inside the table this is the rules' `planOf`; past its end both sides are 0.
 use mathlib.Core.Path.{_≡_, refl, sym, ap, _∙_}
 use mathlib.Core.List.{List, [], _∷_, _++_}
-use mathlib.Core.Bool.{Bool, true, false}
-use Prim.Native.Nat.{ℕ, zero, suc, _+_, _*_, _/_, _≤_, _<_, max}
+use Prim.Native.Nat.{ℕ, zero, suc, _+_, _*_, _≤_, _<_, max}
 use native.Mathlib.Decide.{decLe}
 use native.Mathlib.Omega.{arith}
-use lib.Dec.{leb}
-use lib.ListN.{length, getD, List·getD-eq-default}
-use Rattle.rules.specs.Base.{pick, greatest, each, total}
-use Rattle.rules.specs.Plan.{Node, count, depthIn, sizeIn, titleIn, planOf, nodeAt, depthAt}
+use lib.ListN.{length, List·getD-eq-default}
+use Rattle.rules.specs.Base.{greatest, each, total}
+use Rattle.rules.specs.Plan.{Node, count, depthIn, titleIn, planOf, nodeAt, depthAt}
 use Rattle.rules.specs.Levels.{leaf, columnAt, rowsOf, columnsOf}
 use Rattle.rules.proofs.Lists.{each-at, length-plan, depth-plan}
 

@@ -1,13 +1,12 @@
 -- The next and the previous cell of a row along the table, one node at a time, and what is known of the node that is found.
 -- Both are by the laws of `first`, or by the one step that their definition takes.
-use mathlib.Core.Path.{_≡_, refl, sym, ap, _∙_}
+use mathlib.Core.Path.{_≡_, refl, ap, _∙_}
 use mathlib.Core.List.{List}
 use mathlib.Core.Bool.{Bool, true, false}
 use Prim.Native.Nat.{ℕ, zero, suc, _+_, _-_, _≤_, _<_}
 use native.Mathlib.Nat.{add-zero, sub-self, not-suc-le-zero}
 use native.Mathlib.Decide.{decLe}
 use native.Mathlib.Omega.{arith}
-use lib.Dec.{ltb}
 use borrow.Author.Tests.{lt-ltb, le-ltb}
 use Rattle.rules.specs.Base.{pick, first}
 use Rattle.rules.proofs.Firsts.{first-most, first-holds, first-before, first-here, first-past, first-same}

@@ -96,10 +96,10 @@ fn node_refusal(table: &[u32], nodes: usize, titles: &[u8]) -> Answer
     ensures { λ r. ⌜ r ≡ afterNodes (now (table .entry)) (now (titles .entry)) (Answer.Done 0) ⌝ }
 {
     let d = bad_depth(table, nodes);
+    let t = bad_title(table, nodes, titles);
     if d < nodes {
         return Answer::Depth(d);
     }
-    let t = bad_title(table, nodes, titles);
     if t < nodes {
         return Answer::Title(t);
     }

@@ -1,12 +1,12 @@
 -- Those of a list that a test holds of: joined lists, none, all, and a test of a test. Each is by induction on the list, one element decided at a time.
 use mathlib.Core.Path.{_≡_, refl, ap, sym, _∙_}
 use mathlib.Core.List.{List, [], _∷_, _++_, append-assoc, append-nil, List·Memᴰ, List·Memᴰ·head, List·Memᴰ·tail, List·Memᴰ·cases-cons, List·Memᴰ·not-nil}
-use mathlib.Core.Bool.{Bool, true, false, _&&_}
+use mathlib.Core.Bool.{Bool, true, false}
 use mathlib.Core.Logic.{⊎-elim}
 use Prim.Native.Nat.{ℕ, suc, zero, _+_, _<_}
 use native.Mathlib.Nat.{add-zero, add-suc}
 use native.Mathlib.Omega.{arith}
-use Rattle.rules.specs.Base.{pick, keep, any, concat, each}
+use Rattle.rules.specs.Base.{pick, keep, each}
 
 module _ {A : Type 0} where
   pub keep-yes : (t : A → Bool) (a : A) (l : List A) → t a ≡ true → keep t (a ∷ l) ≡ a ∷ keep t l

@@ -1,6 +1,5 @@
 -- A run from node 0 on with no least depth stops only at the table's end, so it places every node.
 use borrow.Author.Needs.{needs}
-use mathlib.Core.Path.{refl}
 use Rattle.rules.specs.Base.{total}
 use Rattle.rules.specs.Levels.{columnAt}
 use Rattle.levels.proofs.Runs.{all}

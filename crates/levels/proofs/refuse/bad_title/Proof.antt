@@ -1,12 +1,10 @@
 -- The invariant: no title before k is wrong; so the node found is the first.
-use mathlib.Core.Path.{_≡_, ap, sym, _∙_}
-use mathlib.Core.List.{[]}
+use mathlib.Core.Path.{_≡_, sym, _∙_}
 use mathlib.Core.Bool.{false}
 use Prim.Native.Nat.{ℕ, _≤_, _<_, _-_}
 use native.Mathlib.Omega.{arith}
 use borrow.Author.Count.{below-more}
-use Rattle.rules.specs.Plan.{planOf}
-use Rattle.rules.specs.Numbers.{badDepth, badTitle}
+use Rattle.rules.specs.Numbers.{badTitle}
 use Rattle.rules.proofs.Lists.{first-none, first-hit}
 use borrow.Author.Needs.{needs}
 use Rattle.levels.proofs.refuse.bad_title.Statement.{statement}

@@ -1,13 +1,10 @@
 -- Each return is one of refusals 1 to 3; past them the answer is that of the nodes.
 use mathlib.Core.Bool.{false≢true}
 use mathlib.Core.Logic.{⊎-elim}
-use Prim.Native.Nat.{_/_}
-use lib.ListN.{length}
 use Rattle.rules.specs.Plan.{count}
 use Rattle.levels.proofs.Tests.{stops-ragged, stops-many, stops-empty, stops-later}
 use native.Mathlib.Omega.{arith}
 use mathlib.Core.Path.{refl, sym, _∙_}
-use borrow.Author.Needs.{needs}
 use Rattle.levels.proofs.refuse.first_refusal.Statement.{statement}
 use Rattle.levels.proofs.refuse.first_refusal.Tie as tie
 

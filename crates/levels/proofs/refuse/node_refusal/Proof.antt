@@ -1,7 +1,5 @@
 -- Each test is over all nodes before the next: the first that finds a node is the answer.
 use native.Mathlib.Omega.{arith}
-use mathlib.Core.Path.{_≡_, ap, sym, _∙_}
-use Rattle.rules.specs.Base.{first}
 use Rattle.rules.specs.Numbers.{badTitle}
 use Rattle.rules.specs.declared.Answer.{Answer}
 use Rattle.rules.proofs.Firsts.{first-before}
@@ -13,25 +11,27 @@ use Rattle.levels.proofs.refuse.node_refusal.Tie as tie
 bad-depth-requires : tie.Need-bad-depth-requires
 bad-depth-requires c κs = search needs
 
-returns : tie.Need-returns
-returns c =
-    let s = c .before .before .before .before in
-    stops-depth (s .args .table .now) (s .args .titles .now) (Answer.Done 0) (s .args .nodes) (s .pre .0) (c .before .bad-depth .result) (c .before .bad-depth .ensures) (c .if1 .taken)
-
 bad-title-requires : tie.Need-bad-title-requires
 bad-title-requires c κs = search needs
+
+returns : tie.Need-returns
+returns c =
+    let s = c .before .before .before .before .before in
+    let d = c .before .before .bad-depth in
+    stops-depth (s .args .table .now) (s .args .titles .now) (Answer.Done 0) (s .args .nodes) (s .pre .0) (d .result) (d .ensures) (c .if1 .taken)
 
 returns-2 : tie.Need-returns-2
 returns-2 c =
     let s = c .before .before .before .before .before .before in
     let d = c .before .before .before .bad-depth in
-    stops-title (s .args .table .now) (s .args .titles .now) (Answer.Done 0) (s .args .nodes) (s .pre .0) (d .result) (d .ensures) (c .before .before .if1 .left)
-    (c .before .bad-title .result) (c .before .bad-title .ensures) (c .if2 .taken)
+    let t = c .before .before .bad-title in
+    stops-title (s .args .table .now) (s .args .titles .now) (Answer.Done 0) (s .args .nodes) (s .pre .0) (d .result) (d .ensures) (c .before .if1 .left)
+    (t .result) (t .ensures) (c .if2 .taken)
 
 bad-utf8-requires : tie.Need-bad-utf8-requires
 bad-utf8-requires c κs =
     let s = c .before .before .before .before .before .before in
-    let t = c .before .bad-title in (
+    let t = c .before .before .bad-title in (
       s .pre,
       λ k h. right-title (s .args .table .now) (s .args .titles .now) k
           (first-before (badTitle (s .args .table .now) (s .args .titles .now)) (s .args .nodes) k (omega (arith, t .ensures, c .if2 .left))) .0,
@@ -41,27 +41,29 @@ returns-3 : tie.Need-returns-3
 returns-3 c =
     let s = c .before .before .before .before .before .before .before .before in
     let d = c .before .before .before .before .before .bad-depth in
-    let t = c .before .before .before .bad-title in
+    let t = c .before .before .before .before .bad-title in
+    let u = c .before .bad-utf8 in
     stops-utf8 (s .args .table .now) (s .args .titles .now) (Answer.Done 0) (s .args .nodes) (s .pre .0)
-    (d .result) (d .ensures) (c .before .before .before .before .if1 .left) (t .result) (t .ensures) (c .before .before .if2 .left)
-    (c .before .bad-utf8 .result) (c .before .bad-utf8 .ensures) (c .if3 .taken)
+    (d .result) (d .ensures) (c .before .before .before .if1 .left) (t .result) (t .ensures) (c .before .before .if2 .left)
+    (u .result) (u .ensures) (c .if3 .taken)
 
 returns-4 : tie.Need-returns-4
 returns-4 c =
     let s = c .before .before .before .before .before .before .before .before in
     let d = c .before .before .before .before .before .bad-depth in
-    let t = c .before .before .before .bad-title in
+    let t = c .before .before .before .before .bad-title in
+    let u = c .before .bad-utf8 in
     stops-none (s .args .table .now) (s .args .titles .now) (Answer.Done 0) (s .args .nodes) (s .pre .0)
-    (d .result) (d .ensures) (c .before .before .before .before .if1 .left) (t .result) (t .ensures) (c .before .before .if2 .left)
-    (c .before .bad-utf8 .result) (c .before .bad-utf8 .ensures) (c .if3 .left)
+    (d .result) (d .ensures) (c .before .before .before .if1 .left) (t .result) (t .ensures) (c .before .before .if2 .left)
+    (u .result) (u .ensures) (c .if3 .left)
 
 pub node-refusal-spec : {M : Type 1} → statement M
 node-refusal-spec =
     tie.close
     (tie.spec
     bad-depth-requires
-    returns
     bad-title-requires
+    returns
     returns-2
     bad-utf8-requires
     returns-3

@@ -1,11 +1,6 @@
 -- Each return is one comparison of the depth rule.
-use mathlib.Core.Path.{_≡_, ap, sym, _∙_}
-use mathlib.Core.List.{[]}
-use Prim.Native.Nat.{suc, _-_, _*_, _+_}
-use native.Mathlib.Omega.{arith}
-use Rattle.rules.specs.Plan.{depthIn, planOf}
-use Rattle.rules.specs.Numbers.{badDepth}
-use Rattle.levels.proofs.Plans.{depth-whole}
+use mathlib.Core.Path.{sym}
+use Rattle.rules.specs.Plan.{depthIn}
 use Rattle.levels.proofs.Tests.{wrong-first, wrong-low, wrong-deep, wrong-step}
 use borrow.Author.Needs.{needs}
 use Rattle.levels.proofs.refuse.wrong_depth.Statement.{statement}
@@ -26,11 +21,11 @@ returns c = let s = c .before .before in sym (wrong-first (s .args .table .now) 
 
 returns-2 : tie.Need-returns-2
 unfolding depthIn
-returns-2 c = let s = c .before .before .before in sym (wrong-low (s .args .table .now) (s .pre .1) (s .args .k) (c .before .if1 .left) (c .if2 .taken))
+returns-2 c = let s = c .before .before .before in sym (wrong-low (s .args .table .now) (s .pre .1) (s .args .k) (c .before .if1 .left) (search needs))
 
 returns-3 : tie.Need-returns-3
 unfolding depthIn
-returns-3 c = let s = c .before .before .before .before in sym (wrong-deep (s .args .table .now) (s .pre .1) (s .args .k) (c .before .before .if1 .left) (c .if3 .taken))
+returns-3 c = let s = c .before .before .before .before in sym (wrong-deep (s .args .table .now) (s .pre .1) (s .args .k) (c .before .before .if1 .left) (search needs))
 
 mul-result : tie.Need-mul-result
 mul-result c = search needs

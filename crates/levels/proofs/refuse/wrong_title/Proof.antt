@@ -1,9 +1,6 @@
 -- Each return is one comparison; the last subtracts, so no sum can wrap.
-use mathlib.Core.Path.{_≡_, ap, sym, _∙_}
-use Prim.Native.Nat.{suc, _-_, _*_, _+_}
-use native.Mathlib.Omega.{arith}
+use mathlib.Core.Path.{sym}
 use Rattle.rules.specs.Plan.{startIn, sizeIn}
-use Rattle.rules.specs.Numbers.{badTitle}
 use Rattle.levels.proofs.Tests.{wrong-long, wrong-start, wrong-room}
 use borrow.Author.Needs.{needs}
 use Rattle.levels.proofs.refuse.wrong_title.Statement.{statement}

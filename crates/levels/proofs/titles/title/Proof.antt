@@ -1,6 +1,5 @@
 -- The part from the start, as long as the size: `end - start` is the size.
 use native.Mathlib.Nat.{add-sub-cancel-left}
-use native.Mathlib.Omega.{arith}
 use Rattle.rules.specs.Plan.{startIn, sizeIn, titleIn}
 use borrow.Author.Needs.{needs}
 use Rattle.levels.proofs.titles.title.Statement.{statement}

@@ -1,7 +1,6 @@
 -- Each return is one case of the test.
 use borrow.Author.Tests.{eq-eqb, ne-eqb}
 use Rattle.rules.specs.Base.{pick}
-use borrow.Author.Needs.{needs}
 use Rattle.levels.proofs.walk.one_if_zero.Statement.{statement}
 use Rattle.levels.proofs.walk.one_if_zero.Tie as tie
 

@@ -1,5 +1,5 @@
 -- The invariant: `most` is the greatest depth of the first k nodes, so it stays under 32.
-use Prim.Native.Nat.{ℕ, _+_, _≤_, _<_, _-_}
+use Prim.Native.Nat.{_+_, _≤_, _<_, _-_}
 use native.Mathlib.Numerals.{add-one}
 use Rattle.rules.specs.Plan.{depthIn, count}
 use mathlib.Core.List.{[]}
