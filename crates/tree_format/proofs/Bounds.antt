@@ -1,18 +1,18 @@
 -- How long a graph is at most: at most 32 rows of 256 cells, each with a node and at most 256 edges, and each of these has under 4,096 bytes,
 -- as titles have at most 1,024 bytes and a byte is written as two at most. So a graph's length is under 2^64, far from it.
-use mathlib.Core.Path.{_≡_, refl, ap, sym, _∙_}
-use mathlib.Core.List.{List, [], _∷_, _++_, map, reverse, List·Memᴰ, List·Memᴰ·not-nil, List·Memᴰ·eq-of-singleton}
+use mathlib.Core.Path.{ap}
+use mathlib.Core.List.{List, [], _∷_, map, reverse, List·Memᴰ, List·Memᴰ·not-nil, List·Memᴰ·eq-of-singleton}
 use mathlib.Core.Bool.{Bool, true, false, _&&_}
 use Prim.Native.Nat.{ℕ, suc, zero, _+_, _*_, _≤_, _<_, _^_}
 use native.Mathlib.Omega.{arith}
 use lib.Dec.{eqb, leb, ltb}
 use lib.ListN.{length, length-append, length-reverse}
-use Rattle.rules.specs.Base.{pick, keep, concat, each, greatest}
+use Rattle.rules.specs.Base.{pick, concat, each}
 use Rattle.rules.specs.Utf8.{utf8}
-use Rattle.rules.specs.Lines.{letters, bytes, digits}
-use Rattle.rules.specs.Plan.{Node, count, depthIn, titleIn, planOf, nodeAt, depthAt}
-use Rattle.rules.specs.Levels.{Cell, View, columnAt, rowsOf, cellAt, shown, view, inRow, nextColumn, children}
-use Rattle.rules.specs.Graph.{Form, escaped, name, node, edge, entries}
+use Rattle.rules.specs.Lines.{letters, bytes}
+use Rattle.rules.specs.Plan.{Node, count, planOf, nodeAt, depthAt}
+use Rattle.rules.specs.Levels.{Cell, columnAt, cellAt, shown, view, inRow, nextColumn, children}
+use Rattle.rules.specs.Graph.{escaped, name, node, edge, entries}
 use Rattle.rules.proofs.Digits.{digits-few}
 use Rattle.rules.proofs.Lists.{length-plan}
 use Rattle.rules.proofs.Keeps.{kept-mem}

@@ -1,6 +1,6 @@
 -- Entries by their parts: each is put piece by piece, and is as long as its pieces. Names go by a cell's row and column alone, so a node's
 -- name is that of its place.
-use mathlib.Core.Path.{_≡_, refl, ap, sym, _∙_}
+use mathlib.Core.Path.{_≡_, refl, ap, _∙_}
 use mathlib.Core.Bool.{Bool, true, false}
 use mathlib.Core.List.{List, [], _∷_, _++_, append-assoc}
 use Prim.Native.Nat.{ℕ, suc, zero, _+_, _*_, _≤_, _<_}

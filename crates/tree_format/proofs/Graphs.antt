@@ -1,12 +1,12 @@
 -- What a graph answers and leaves in the lent output. The walk over no output counts; the walk over the output, which has room for all, lays the
 -- graph at its start.
 use mathlib.Core.Path.{_≡_, refl, ap, sym, _∙_}
-use mathlib.Core.List.{List, [], _∷_, _++_, append-assoc}
+use mathlib.Core.List.{List, [], _∷_, _++_}
 use mathlib.Core.Bool.{Bool, true, false}
-use Prim.Native.Nat.{ℕ, suc, zero, _+_, _*_, _/_, _≤_, _<_}
+use Prim.Native.Nat.{ℕ, _+_, _/_, _≤_, _<_}
 use native.Mathlib.Omega.{arith}
-use lib.ListN.{length, getD, take, drop}
-use lib.Seq.{sets, sets-eq}
+use lib.ListN.{length, getD}
+use lib.Seq.{sets-eq}
 use borrow.Author.Tests.{lt-ltb, le-ltb}
 use Rattle.rules.specs.Base.{pick, laid}
 use Rattle.rules.specs.Plan.{count, planOf}
@@ -17,7 +17,7 @@ use Rattle.rules.specs.Answers.{done, inRoom, graphAnswer, graphAfter}
 use Rattle.rules.specs.declared.Answer.{Answer}
 use Rattle.levels.specs.Accepted.{checked, Accepted}
 use Rattle.levels.specs.Filled.{filled}
-use Rattle.levels.proofs.Accepted.{depth-small, checked-accepted, graph-next, graph-stops}
+use Rattle.levels.proofs.Accepted.{depth-small, graph-next, graph-stops}
 use Rattle.levels.proofs.Filled.{filled-at}
 use Rattle.tree_format.specs.Put.{Put}
 use Rattle.tree_format.specs.Entries.{Ready}

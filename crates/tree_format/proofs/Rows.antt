@@ -12,7 +12,7 @@ use borrow.Author.Tests.{eqb-true}
 use Rattle.rules.specs.Base.{pick, concat}
 use Rattle.rules.specs.Plan.{count, depthIn, sizeIn, planOf, depthAt}
 use Rattle.rules.specs.Levels.{Cell, columnAt, cellAt, view, inRow, children}
-use Rattle.rules.specs.Graph.{Form, name, node, edge, entries}
+use Rattle.rules.specs.Graph.{Form, node, edge, entries}
 use Rattle.rules.proofs.Lists.{depth-plan}
 use Rattle.levels.specs.Accepted.{Accepted}
 use Rattle.levels.specs.Cells.{cellIn, nextCell}
@@ -21,7 +21,7 @@ use Rattle.levels.proofs.Tests.{and-true}
 use Rattle.levels.proofs.Walks.{next-from, next-most, next-holds, next-before}
 use Rattle.levels.proofs.Between.{between-nil, between-snoc, row-append, row-nil, row-view, row-split, row-none, row-first, cell-row}
 use Rattle.levels.proofs.Cells.{children-between}
-use Rattle.tree_format.specs.Entries.{lead, spotIn, edgeIn, edgesIn, nodeIn, backward, rowEntries}
+use Rattle.tree_format.specs.Entries.{lead, edgeIn, edgesIn, nodeIn, backward, rowEntries}
 use Rattle.tree_format.proofs.Entries.{name-place}
 use Rattle.tree_format.proofs.Backward.{back-end, back-here, back-past}
 use Rattle.tree_format.proofs.Concats.{concat-append}

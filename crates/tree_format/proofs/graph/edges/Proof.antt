@@ -1,6 +1,5 @@
 -- The loop's invariant: what is left to put are the edges to m and to the nodes met after it.
 use borrow.Author.Needs.{needs}
-use mathlib.Core.Path.{_≡_, sym}
 use Prim.Native.Nat.{_≤_, _<_, _+_}
 use native.Mathlib.Omega.{arith}
 use Rattle.rules.specs.Plan.{depthIn}

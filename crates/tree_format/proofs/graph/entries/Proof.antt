@@ -1,9 +1,8 @@
 -- The loop's invariant: the entries of the rows before i are put.
 use borrow.Author.Needs.{needs}
-use mathlib.Core.Path.{_≡_, sym}
-use Prim.Native.Nat.{_≤_, _<_, _+_, _-_}
+use mathlib.Core.Path.{_≡_}
+use Prim.Native.Nat.{_≤_, _-_}
 use native.Mathlib.Omega.{arith}
-use lib.ListN.{length}
 use Rattle.rules.specs.Base.{concat}
 use Rattle.rules.specs.Plan.{planOf}
 use Rattle.rules.specs.Levels.{view}
@@ -24,7 +23,9 @@ abbrev μ-loop : tie.MeasureT-loop
 μ-loop out₀ at table nodes titles column fenced rows to₀ i₀ out to i = rows - i
 
 rows-requires : tie.Need-rows-requires Inv-loop μ-loop
-rows-requires c κs = let s = c .before .before .before in (omega (arith, s .pre .0 .1 .whole, s .pre .0 .2), λ k h. depth-small (s .pre .0 .0) k (omega (arith, s .pre .0 .2)))
+rows-requires c κs =
+    let s = c .before .before .before in
+    (omega (arith, s .pre .0 .1 .whole, s .pre .0 .2), λ k h. depth-small (s .pre .0 .0) k (omega (arith, s .pre .0 .2)))
 
 loop-holds : tie.Need-loop-holds Inv-loop μ-loop
 loop-holds c =

@@ -17,7 +17,8 @@ same-length : tie.Need-same-length
 same-length c = search needs
 
 returns : tie.Need-returns
-returns c = room-short (c .before .before .before .whole .ensures) (c .before .before .before .before .before .before .before .before .args .out .now) (search needs)
+returns c =
+    room-short (c .before .before .before .whole .ensures) (c .before .before .before .before .before .before .before .before .args .out .now) (search needs)
 
 whole-requires-2 : tie.Need-whole-requires-2
 whole-requires-2 c κs = search needs
@@ -26,7 +27,10 @@ same-length-2 : tie.Need-same-length-2
 same-length-2 c = search needs
 
 returns-2 : tie.Need-returns-2
-returns-2 c = room-enough (c .before .before .before .before .before .before .before .whole .ensures) (c .before .before .before .before .before .before .before .before .before .before .before .before .args .out .now) (search needs) (c .before .before .whole2 .ensures)
+returns-2 c =
+    room-enough (c .before .before .before .before .before .before .before .whole .ensures)
+    (c .before .before .before .before .before .before .before .before .before .before .before .before .args .out .now) (search needs)
+    (c .before .before .whole2 .ensures)
 
 pub fill-spec : {M : Type 1} → statement M
 fill-spec =

@@ -17,12 +17,15 @@ done-requires c κs = search needs
 
 columns-requires : tie.Need-columns-requires
 columns-requires c κs =
-    let a = checked-accepted false (c .before .before .before .before .before .before .before .args .table .now) (c .before .before .before .before .before .before .before .args .titles .now) (passed (c .before .before .before .first-refusal .ensures) (c .before .before .done .ensures) (search needs)) in
+    let s = c .before .before .before .before .before .before .before .args in
+    let a = checked-accepted false (s .table .now) (s .titles .now) (passed (c .before .before .before .first-refusal .ensures) (c .before .before .done .ensures) (search needs)) in
     (omega (arith, a .whole), omega (arith, a .whole, a .few), refl)
 
 fill-requires : tie.Need-fill-requires
 fill-requires c κs =
-    let a = checked-accepted false (c .before .before .before .before .before .before .before .before .before .before .args .table .now) (c .before .before .before .before .before .before .before .before .before .before .args .titles .now) (passed (c .before .before .before .before .before .before .first-refusal .ensures) (c .before .before .before .before .before .done .ensures) (search needs)) in
+    let s = c .before .before .before .before .before .before .before .before .before .before .args in
+    let r = c .before .before .before .before .before .before .first-refusal .ensures in
+    let a = checked-accepted false (s .table .now) (s .titles .now) (passed r (c .before .before .before .before .before .done .ensures) (search needs)) in
     (a, ready a _ _ refl (c .before .before .columns .ensures .1))
 
 same-length : tie.Need-same-length
@@ -31,12 +34,15 @@ same-length c = search needs
 returns : tie.Need-returns
 returns c =
     let s = c .before .before .before .before .before .before .before .before .before .before .before .before .before .args in
-    accepted-answer (formOf (s .fenced)) (s .table .now) (s .titles .now) (s .out .now) (passed (c .before .before .before .before .before .before .before .before .before .first-refusal .ensures) (c .before .before .before .before .before .before .before .before .done .ensures) (search needs)) (c .before .before .fill .ensures)
+    let r = c .before .before .before .before .before .before .before .before .before .first-refusal .ensures in
+    accepted-answer (formOf (s .fenced)) (s .table .now) (s .titles .now) (s .out .now)
+    (passed r (c .before .before .before .before .before .before .before .before .done .ensures) (search needs)) (c .before .before .fill .ensures)
 
 returns-2 : tie.Need-returns-2
 returns-2 c =
     let s = c .before .before .before .before .before .before .args in
-    refused-answer (formOf (s .fenced)) (s .table .now) (s .titles .now) (s .out .now) (c .before .before .first-refusal .ensures) (sym (c .before .done .ensures) ∙ (search needs))
+    refused-answer (formOf (s .fenced)) (s .table .now) (s .titles .now) (s .out .now)
+    (c .before .before .first-refusal .ensures) (sym (c .before .done .ensures) ∙ (search needs))
 
 pub graph-spec : {M : Type 1} → statement M
 graph-spec =

@@ -1,9 +1,7 @@
 -- What the table and the columns say of node k is its place.
 use borrow.Author.Needs.{needs}
-use native.Mathlib.Omega.{arith}
-use lib.ListN.{getD}
 use Rattle.rules.specs.Graph.{name}
-use Rattle.tree_format.specs.Forms.{formOf, spot}
+use Rattle.tree_format.specs.Forms.{formOf}
 use Rattle.tree_format.specs.Entries.{spotIn}
 use Rattle.tree_format.proofs.Puts.{room}
 use Rattle.tree_format.proofs.Entries.{row-small, column-small, name-read}

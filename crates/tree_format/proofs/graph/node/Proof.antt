@@ -41,13 +41,20 @@ bytes-requires-2 c κs =
     omega (arith, s .pre .1 .1, length-read (formOf (a .fenced)) (a .table .now) (a .titles .now) (a .k) (s .pre .1 .0))
 
 title-requires : tie.Need-title-requires
-title-requires c κs = let s = c .before .before .before .before .before .before .before .before .before .before .before .before .before .before .before .before .before .before in (node-fits (s .pre .0 .0) (s .args .k) (s .pre .1 .0), title-fits (s .pre .0 .0) (s .args .k) (s .pre .1 .0))
+title-requires c κs =
+    let s = c .before .before .before .before .before .before .before .before .before .before .before .before .before .before .before .before .before .before in
+    (node-fits (s .pre .0 .0) (s .args .k) (s .pre .1 .0), title-fits (s .pre .0 .0) (s .args .k) (s .pre .1 .0))
 
 shown-requires : tie.Need-shown-requires
 shown-requires c κs =
     let s = c .before .before .before .before .before .before .before .before .before .before .before .before .before .before .before .before .before .before .before in
     let a = s .args in
-    omega (arith, s .pre .1 .1, length-read (formOf (a .fenced)) (a .table .now) (a .titles .now) (a .k) (s .pre .1 .0), ap (λ t. length (concat (formOf (a .fenced) .written) t)) (c .title .ensures))
+    omega (
+      arith,
+      s .pre .1 .1,
+      length-read (formOf (a .fenced)) (a .table .now) (a .titles .now) (a .k) (s .pre .1 .0),
+      ap (λ t. length (concat (formOf (a .fenced) .written) t)) (c .title .ensures),
+    )
 
 slice-aggregate-bytes-3 : tie.Need-slice-aggregate-bytes-3
 slice-aggregate-bytes-3 c = search needs
@@ -56,7 +63,12 @@ bytes-requires-3 : tie.Need-bytes-requires-3
 bytes-requires-3 c κs =
     let s = c .before .before .before .before .before .before .before .before .before .before .before .before .before .before .before .before .before .before .before .before .before .before .before .before in
     let a = s .args in
-    omega (arith, s .pre .1 .1, length-read (formOf (a .fenced)) (a .table .now) (a .titles .now) (a .k) (s .pre .1 .0), ap (λ t. length (concat (formOf (a .fenced) .written) t)) (c .before .before .before .before .before .title .ensures), c .before .before .before .before .shown .ensures .place, c .before .before .before .before .before .before .before .before .before .bytes2 .ensures .place, c .before .before .before .before .before .before .before .before .before .before .before .before .before .before .name-of .ensures .place, c .before .before .before .before .before .before .before .before .before .before .before .before .before .before .before .before .before .before .bytes .ensures .place)
+    let l = c .before .before .before .before .before .before .before .before .before .before .before .before .before .before .before .before .before .before .bytes .ensures .place in
+    let n = c .before .before .before .before .before .before .before .before .before .before .before .before .before .before .name-of .ensures .place in
+    let b = c .before .before .before .before .before .before .before .before .before .bytes2 .ensures .place in
+    let w = c .before .before .before .before .shown .ensures .place in
+    let t = ap (λ t. length (concat (formOf (a .fenced) .written) t)) (c .before .before .before .before .before .title .ensures) in
+    omega (arith, l, n, b, w, t, s .pre .1 .1, length-read (formOf (a .fenced)) (a .table .now) (a .titles .now) (a .k) (s .pre .1 .0))
 
 same-length : tie.Need-same-length
 same-length c = search needs
@@ -65,9 +77,12 @@ returns : tie.Need-returns
 returns c =
     let s = c .before .before .before .before .before .before .before .before .before .before .before .before .before .before .before .before .before .before .before .before .before .before .before .before .before .before .before in
     let a = s .args in
+    let l = c .before .before .before .before .before .before .before .before .before .before .before .before .before .before .before .before .before .before .before .before .before .bytes .ensures in
+    let n = c .before .before .before .before .before .before .before .before .before .before .before .before .before .before .before .before .before .name-of .ensures in
+    let b = c .before .before .before .before .before .before .before .before .before .before .before .before .bytes2 .ensures in
     let t = rw (c .before .before .before .before .before .before .before .before .title .ensures) at (c .before .before .before .before .before .before .before .shown .ensures) in
     rw (node-read (formOf (a .fenced)) (a .table .now) (a .titles .now) (a .k) (s .pre .1 .0))
-    (then (then (then (then (c .before .before .before .before .before .before .before .before .before .before .before .before .before .before .before .before .before .before .before .before .before .bytes .ensures) (c .before .before .before .before .before .before .before .before .before .before .before .before .before .before .before .before .before .name-of .ensures)) (c .before .before .before .before .before .before .before .before .before .before .before .before .bytes2 .ensures)) t) (c .before .before .bytes3 .ensures))
+    (then (then (then (then l n) b) t) (c .before .before .bytes3 .ensures))
 
 pub node-spec : {M : Type 1} → statement M
 node-spec =

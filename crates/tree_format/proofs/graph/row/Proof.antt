@@ -6,7 +6,7 @@ use mathlib.Core.Bool.{true}
 use Prim.Native.Nat.{_≤_, _<_, _+_, _-_}
 use native.Mathlib.Omega.{arith}
 use Rattle.rules.specs.Base.{concat}
-use Rattle.rules.specs.Plan.{count, depthIn, planOf}
+use Rattle.rules.specs.Plan.{depthIn, planOf}
 use Rattle.levels.specs.Cells.{cellIn}
 use Rattle.tree_format.specs.Forms.{formOf}
 use Rattle.tree_format.specs.Entries.{lead, edgesIn, nodeIn, backward, rowEntries}

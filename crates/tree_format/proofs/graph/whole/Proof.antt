@@ -35,7 +35,9 @@ no-entry-requires c κs =
     let p = planOf (a .table .now) (a .titles .now) in
     let g = length-graph f p in
     let b = graph-most (s .pre .0) (a .fenced) in
-    let e : c .before .before .before .entries .result ≡ 7 + length (concat lead (allEntries f p)) = omega (arith, c .before .before .before .before .before .before .before .bytes .ensures .place, c .before .before .before .entries .ensures .place) in
+    let o = c .before .before .before .before .before .before .before .bytes .ensures .place in
+    let n = c .before .before .before .entries .ensures .place in
+    let e : c .before .before .before .entries .result ≡ 7 + length (concat lead (allEntries f p)) = omega arith in
     rw e (omega arith)
 
 slice-aggregate-bytes-2 : tie.Need-slice-aggregate-bytes-2
@@ -49,9 +51,11 @@ bytes-requires-2 c κs =
     let p = planOf (a .table .now) (a .titles .now) in
     let g = length-graph f p in
     let b = graph-most (s .pre .0) (a .fenced) in
-    let e : c .before .before .before .before .before .before .before .before .entries .result ≡ 7 + length (concat lead (allEntries f p)) = omega (arith, c .before .before .before .before .before .before .before .before .before .before .before .before .bytes .ensures .place, c .before .before .before .before .before .before .before .before .entries .ensures .place) in
+    let o = c .before .before .before .before .before .before .before .before .before .before .before .before .bytes .ensures .place in
+    let n = c .before .before .before .before .before .before .before .before .entries .ensures .place in
+    let e : c .before .before .before .before .before .before .before .before .entries .result ≡ 7 + length (concat lead (allEntries f p)) = omega arith in
     let k = rw e at (c .before .before .before .before .no-entry .ensures .place) in
-    omega (arith, k)
+    omega arith
 
 same-length : tie.Need-same-length
 same-length c = search needs
@@ -59,8 +63,10 @@ same-length c = search needs
 returns : tie.Need-returns
 returns c =
     let a = c .before .before .before .before .before .before .before .before .before .before .before .before .before .before .before .before .before .before .before .before .before .args in
-    graph-put (formOf (a .fenced)) (planOf (a .table .now) (a .titles .now))
-    (c .before .before .before .before .before .before .before .before .before .before .before .before .before .before .before .bytes .ensures) (c .before .before .before .before .before .before .before .before .before .before .before .entries .ensures) (c .before .before .before .before .before .before .before .no-entry .ensures) (c .before .before .bytes2 .ensures)
+    let o = c .before .before .before .before .before .before .before .before .before .before .before .before .before .before .before .bytes .ensures in
+    let e = c .before .before .before .before .before .before .before .before .before .before .before .entries .ensures in
+    let g = c .before .before .before .before .before .before .before .no-entry .ensures in
+    graph-put (formOf (a .fenced)) (planOf (a .table .now) (a .titles .now)) o e g (c .before .before .bytes2 .ensures)
 
 pub whole-spec : {M : Type 1} → statement M
 whole-spec =
