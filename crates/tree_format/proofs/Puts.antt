@@ -1,6 +1,6 @@
 -- Putting piece by piece. Where W is put at `at` on l, and so far memory m and place `to` are reached with `rest` still to put,
 -- one more piece leaves less to put, and with nothing left W is put. Each holds because `sets` puts a list as it puts its parts in turn.
-use mathlib.Core.Path.{_≡_, refl, sym, _∙_}
+use mathlib.Core.Path.{_≡_, refl, ap, sym, _∙_}
 use mathlib.Core.List.{List, [], _∷_, _++_}
 use Prim.Native.Nat.{ℕ, suc, zero, _+_, _≤_, _<_}
 use native.Mathlib.Nat.{add-zero}
@@ -17,6 +17,14 @@ sets-append [] b l at = rw add-zero
 sets-append (x ∷ a) b l at =
     let e : suc at + length a ≡ at + suc (length a) = omega arith in
     sets-append a b (set l at x) (suc at) ∙ rw e
+
+-- nothing is put
+pub idle : (at : ℕ) (l : List ℕ) → Put [] at l l at
+idle at l = record { place = sym (add-zero at); holds = refl }
+
+-- as much memory as before
+pub put-length : {w : List ℕ} {at : ℕ} {l m : List ℕ} {to : ℕ} → Put w at l m to → length m ≡ length l
+put-length {w} {at} {l} p = ap length (p .holds) ∙ length-sets l at w
 
 -- a piece and the next
 pub then : {a b : List ℕ} {at : ℕ} {l m n : List ℕ} {p q : ℕ} → Put a at l m p → Put b p m n q → Put (a ++ b) at l n q
@@ -41,7 +49,7 @@ module _ {W : List ℕ} {at : ℕ} {l : List ℕ} where
       → Left W at l rest to m → rest ≡ x ++ more → Put x to m n next → Left W at l more next n
   step {rest} {to} {m} x more {n} {next} h e p =
       let f : length rest ≡ length x + length more = rw e (length-append x more) in
-      let g : length n ≡ length m = rw (p .holds) (length-sets m to x) in
+      let g : length n ≡ length m = put-length p in
       record {
         same = g ∙ h .same;
         place = omega (arith, h .place, p .place);

@@ -1,3 +1,4 @@
 pub mod Put
 pub mod Forms
 pub mod Drawn
+pub mod Entries

@@ -1,5 +1,4 @@
 // Bytes put one after another. What has no room is only counted: a store past the end is dropped, by `set` and `sets` as by the code.
-ghost use mathlib.Core.Path.{_≡_};
 ghost use mathlib.Core.List.{[], _∷_};
 ghost use Prim.Native.Nat.{_+_, _<_, _^_};
 ghost use lib.ListN.{length};

@@ -1,11 +1,9 @@
 -- Each branch is one form.
 use borrow.Author.Needs.{needs}
-use mathlib.Core.Path.{refl, sym}
-use native.Mathlib.Nat.{add-zero}
 use mathlib.Core.List.{[], _∷_}
 use Rattle.tree_format.specs.Forms.{formOf}
 use Rattle.tree_format.proofs.Escapes.{fenced-between, bare-between}
-use Rattle.tree_format.proofs.Puts.{room}
+use Rattle.tree_format.proofs.Puts.{idle, room}
 use Rattle.tree_format.proofs.put.between.Statement.{statement}
 use Rattle.tree_format.proofs.put.between.Tie as tie
 
@@ -21,7 +19,7 @@ returns : tie.Need-returns
 returns c = rw (fenced-between (c .before .before .before .before .before .before .args .fenced) (search needs)) (c .before .before .byte .ensures)
 
 returns-2 : tie.Need-returns-2
-returns-2 c = let s = c .before .before .args in rw (bare-between (s .fenced) (search needs)) (record { place = sym (add-zero (s .at)); holds = refl })
+returns-2 c = let s = c .before .before .args in rw (bare-between (s .fenced) (search needs)) (idle (s .at) (s .out .now))
 
 pub between-spec : {M : Type 1} → statement M
 between-spec = tie.close (tie.spec byte-requires same-length returns returns-2)

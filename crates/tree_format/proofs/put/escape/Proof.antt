@@ -33,7 +33,8 @@ same-length-2 : tie.Need-same-length-2
 same-length-2 c = search needs
 
 returns-2 : tie.Need-returns-2
-returns-2 c = rw (line (c .before .before .before .before .before .before .before .before .args .b) (search needs) (search needs)) (c .before .before .bytes2 .ensures)
+returns-2 c =
+    rw (line (c .before .before .before .before .before .before .before .before .args .b) (search needs) (search needs)) (c .before .before .bytes2 .ensures)
 
 byte-requires : tie.Need-byte-requires
 byte-requires c κs =

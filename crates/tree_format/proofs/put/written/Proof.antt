@@ -17,7 +17,9 @@ same-length : tie.Need-same-length
 same-length c = search needs
 
 returns : tie.Need-returns
-returns c = let s = c .before .before .before .before .before .before .args in rw (fenced-written (s .fenced) (s .b) (search needs)) (c .before .before .escape .ensures)
+returns c =
+    let s = c .before .before .before .before .before .before .args in
+    rw (fenced-written (s .fenced) (s .b) (search needs)) (c .before .before .escape .ensures)
 
 byte-requires : tie.Need-byte-requires
 byte-requires c κs =
@@ -28,7 +30,9 @@ same-length-2 : tie.Need-same-length-2
 same-length-2 c = search needs
 
 returns-2 : tie.Need-returns-2
-returns-2 c = let s = c .before .before .before .before .before .before .args in rw (bare-written (s .fenced) (s .b) (search needs)) (c .before .before .byte .ensures)
+returns-2 c =
+    let s = c .before .before .before .before .before .before .args in
+    rw (bare-written (s .fenced) (s .b) (search needs)) (c .before .before .byte .ensures)
 
 pub written-spec : {M : Type 1} → statement M
 written-spec =
