@@ -1,16 +1,17 @@
 -- What a part of a file from a place on holds, whether the file's end is the trailer's mark, and a table that is read word by word.
 -- All of it is about places: the byte k of the part from `at` on is the file's byte at + k, and a word is four of these.
-use mathlib.Core.Path.{_≡_, refl, ap, _∙_}
-use mathlib.Core.List.{List, [], _∷_, _++_, append-assoc}
+use mathlib.Core.Path.{_≡_, refl, ap, sym, _∙_}
+use mathlib.Core.List.{List, [], _∷_}
 use mathlib.Core.Bool.{Bool, true, false, _&&_, and-true, and-false}
-use Prim.Native.Nat.{ℕ, suc, zero, _+_, _*_, _-_, _≤_, _<_}
+use Prim.Native.Nat.{ℕ, suc, zero, _+_, _*_, _-_, _≤_, _<_, min}
 use native.Mathlib.Numerals.{add-one}
+use native.Mathlib.Decide.{decLe}
 use native.Mathlib.Omega.{arith}
 use lib.Dec.{leb, eqb}
-use lib.ListN.{length, getD, set, take, drop, length-append, length-drop, List·getD-eq-default}
-use lib.Seq.{take-all, getD-drop, drop-cons, set-at}
+use lib.ListN.{length, getD, set, take, drop, length-drop, List·getD-eq-default}
+use lib.Seq.{take-all, getD-drop, take-suc-set}
 use borrow.Author.Tests.{le-leb, lt-leb, leb-true}
-use Rattle.rules.specs.Base.{each, same, laid}
+use Rattle.rules.specs.Base.{each, same}
 use Rattle.rules.specs.File.{word, offsetIn, countIn, endsInTree, formed}
 use Rattle.rules.proofs.Lists.{length-each}
 use Rattle.plan_file.specs.Words.{wordsFrom}
@@ -32,7 +33,7 @@ word-at F at a b c d e f g h =
     omega (arith, ap (λ i. getD F i 0) z, in-part F at 0, in-part F at 1, in-part F at 2, in-part F at 3)
 
 -- past the end there is nothing but zeros
-pub word-past : (F : List ℕ) (at : ℕ) → length F < at → word F at ≡ 0
+pub word-past : (F : List ℕ) (at : ℕ) → length F ≤ at → word F at ≡ 0
 unfolding word
 word-past F at h =
     omega (
@@ -92,20 +93,25 @@ pub no-mark : (F : List ℕ) → endsInTree F ≡ false → formed F ≡ false
 unfolding formed
 no-mark F e = rw e
 
--- a table that is read word by word
+-- places with the same bytes from them on have the same word: they are one, or both are past the end
+pub same-word : (F : List ℕ) (a b : ℕ) → min a (length F) ≡ min b (length F) → word F a ≡ word F b
+same-word F a b e =
+    elim (decLe (length F) a) [
+      | yes l ↦ word-past F a l ∙ sym (word-past F b (omega arith))
+      | no l ↦ (let q : a ≡ b = omega arith in ap (word F) q)
+    ]
+
+-- words that are read one by one
 module _ (F : List ℕ) (from : ℕ) where
   pub length-words : (k : ℕ) → length (wordsFrom F from k) ≡ k
   unfolding wordsFrom
   length-words k = length-each (λ i. word F (from + 4 * i)) k
 
-  pub none-read : (old : List ℕ) → old ≡ laid (wordsFrom F from 0) old
-  unfolding laid wordsFrom each
-  none-read old = refl
+  pub none-read : (table : List ℕ) → take 0 table ≡ wordsFrom F from 0
+  unfolding wordsFrom each
+  none-read table = refl
 
-  pub read-more : (k : ℕ) (old : List ℕ) → k < length old
-      → set (laid (wordsFrom F from k) old) k (word F (from + 4 * k)) ≡ laid (wordsFrom F from (k + 1)) old
-  unfolding laid wordsFrom each
-  read-more k old h =
-      let n : length (wordsFrom F from k) ≡ k = length-words k in
-      rw (add-one k, length-append, n, add-one k, drop-cons old k 0 h, append-assoc)
-      (set-at (wordsFrom F from k) (getD old k 0) (drop (suc k) old) (word F (from + 4 * k)) k n)
+  pub read-more : (k at v : ℕ) (table : List ℕ) → k < length table → min at (length F) ≡ min (from + 4 * k) (length F) → v ≡ word F at
+      → take k table ≡ wordsFrom F from k → take (k + 1) (set table k v) ≡ wordsFrom F from (k + 1)
+  unfolding wordsFrom each
+  read-more k at v table h e w t = rw (add-one k, take-suc-set table k v h, t, w, same-word F at (from + 4 * k) e)

@@ -1,8 +1,7 @@
 // The numbers of a file, and whether its form is whole.
 ghost use mathlib.Core.Path.{_≡_};
-ghost use Prim.Native.Nat.{_≤_, _<_, min};
+ghost use Prim.Native.Nat.{_+_, _<_, min, max};
 ghost use lib.ListN.{length, getD};
-ghost use Rattle.rules.specs.Base.{laid};
 ghost use Rattle.rules.specs.File.{word as File·word, endsInTree, formed as File·formed};
 ghost use Rattle.plan_file.specs.Words.{wordsFrom};
 use text::wide;
@@ -73,14 +72,29 @@ pub fn formed(file: &[u8]) -> bool
     size == offset + 12 * count + 12
 }
 
-// Reads `count` words from file[from] on into the table.
-fn words(file: &[u8], from: usize, count: usize, table: &mut [u32; 771])
-    requires { ⌜ (from ≤ 65536) × (count ≤ 771) × (length (now table) ≡ 771) ⌝ }
-    ensures { λ _. ⌜ now (table .exit) ≡ laid (wordsFrom (now (file .entry)) from count) (now (table .entry)) ⌝ }
+// The place of the next word. (Where there is none, the file's end or the place itself, so that no sum is too great.)
+fn after(file: &[u8], at: usize) -> usize
+    ensures { λ r. ⌜ r ≡ min (at + 4) (max at (length (now (file .entry)))) ⌝ }
 {
+    let size = file.len();
+    if size <= at {
+        return at;
+    }
+    if size - at <= 4 {
+        return size;
+    }
+    at + 4
+}
+
+// Fills the table with words, from file[from] on.
+pub fn words(file: &[u8], from: usize, table: &mut [u32])
+    ensures { λ _. ⌜ now (table .exit) ≡ wordsFrom (now (file .entry)) from (length (now (table .entry))) ⌝ }
+{
+    let mut at = from;
     let mut k = 0;
-    while k < count {
-        table[k] = word(file, from + 4 * k);
+    while k < table.len() {
+        table[k] = word(file, at);
+        at = after(file, at);
         k += 1;
     }
 }

@@ -3,3 +3,4 @@ mod bytes;
 
 pub use bytes::formed;
 pub use bytes::word;
+pub use bytes::words;
