@@ -1,0 +1,6 @@
+// The file form: titles, the table as u32 little-endian, and a 12-byte trailer that points back.
+mod bytes;
+
+pub use bytes::formed;
+pub use bytes::word;
+pub use bytes::words;

@@ -1,0 +1,159 @@
+"""What the programs are held to: requests to `answers`, and the line that each must get.
+
+Texts and the crate's graphs come from the Rust crate itself (../shared/oracle builds its code); refusals, sizes, the fenced graph and
+what is left in lent memory from a second reading of document 01 (../shared/model/rules.py). Nothing here runs our code.
+"""
+import os, struct, subprocess, sys
+
+ROOT = os.path.dirname(os.path.dirname(os.path.abspath(__file__)))
+SHARED = os.path.join(os.path.dirname(ROOT), 'shared')
+sys.path.insert(0, os.path.join(SHARED, 'model'))
+try: import rules
+except ImportError: rules = None
+
+TEXT, GRAPH, FENCED, FILE = 0, 1, 2, 4
+CELL, BYTE, PRIME = 0xA5A5A5A5, 0xA5, 4294967291
+MOST_LENT_CELLS, MOST_OUT, MOST_TITLES, MOST_ENTRIES, MOST_PAYLOAD = 262144, 524288, 262144, 1024, 524288
+
+
+def missing():
+    """What the comparison needs and this machine lacks, or None."""
+    if rules is None or not os.path.isdir(os.path.join(SHARED, 'oracle')): return '../shared is not here'
+    try: subprocess.run(['rustc', '--version'], check=True, capture_output=True)
+    except (OSError, subprocess.CalledProcessError): return 'rustc is not here'
+
+
+def head(op, lent1, lent2, lent3, length): return struct.pack('<5I', op, lent1, lent2, lent3, length)
+
+
+class Request:
+    """One request. A plan's payload is made of its table and title bytes, a file's is the file."""
+
+    def __init__(self, op, lent1, lent2, table=None, titles=b'', file=None):
+        self.op, self.lent1, self.lent2, self.file = op, lent1, lent2, file
+        self.broken = False
+        if op == FILE:
+            got = rules.from_file(file)
+            self.broken = got is None
+            table, titles = got or ([], b'')
+        self.table, self.titles = table, titles
+        self.refusal = None if self.broken else rules.check(table, titles, op in (TEXT, FILE))
+        self.plan = None if self.broken or self.refusal else rules.plan_of(table, titles)
+        self.view = rules.View(self.plan) if self.plan and op in (TEXT, FILE) else None
+        if self.view and self.view.width * self.view.height > min(lent1, rules.LIMIT): self.form = None
+        else: self.form = {TEXT: 'text', FILE: 'text', GRAPH: 'dot'}.get(op)
+
+    def sent(self):
+        if self.op == FILE: payload = self.file
+        else: payload = struct.pack('<I', len(self.titles)) + self.titles + struct.pack('<%dI' % len(self.table), *self.table)
+        return head(self.op, self.lent1, self.lent2, 0, len(payload)) + payload
+
+    def within(self):
+        """It keeps the bounds of `answers`."""
+        return (self.lent1 <= MOST_LENT_CELLS and self.lent2 <= MOST_OUT and len(self.sent()) - 20 <= MOST_PAYLOAD
+                and (self.op == FILE or len(self.titles) <= MOST_TITLES and len(self.table) <= MOST_ENTRIES))
+
+    def line(self, crate):
+        """The line that answers it. `crate` is what the crate gives for the plan, in self.form."""
+        number, second, sizes, cells, out = self.settled(crate)
+        lent1 = 0 if self.op in (GRAPH, FENCED) else self.lent1
+        return '%d %d %d %d %d %d %d 0' % (number, second, *sizes, left(cells, lent1, CELL), left(out, self.lent2, BYTE))
+
+    def settled(self, crate):
+        """Number, second number, sizes, and what the canvas and the output begin with afterwards."""
+        none = (0, 0, 0)
+        if self.broken: return rules.TRAILER, 0, none, [], b''
+        if self.refusal: return *self.refusal, none, [], b''
+        if self.op in (GRAPH, FENCED):
+            if self.op == FENCED: crate = rules.graph(self.plan, fenced=True)
+            if len(crate) > self.lent2: return rules.ROOM, len(crate), none, [], b''
+            return rules.DONE, len(crate), none, [], crate
+        width, height = self.view.width, self.view.height
+        if width * height > rules.LIMIT: return rules.LARGE, 0, none, [], b''
+        if width * height > self.lent1: return rules.CANVAS, width * height, none, [], b''
+        cells = [ord(c) for row in crate.decode().split('\n')[:-1] for c in row.ljust(width)]
+        assert len(cells) == width * height
+        if len(crate) > self.lent2: return rules.ROOM, len(crate), none, cells, b''
+        return rules.DONE, len(crate), (width, height, sum(not t for _, t in self.plan)), cells, crate
+
+
+def left(begun, lent, fill):
+    """The sum of lent memory that begins so and is `fill` for the rest: s = s * 31 + v over all, modulo PRIME."""
+    s = 0
+    for v in begun: s = (s * 31 + v) % PRIME
+    grown = pow(31, lent - len(begun), PRIME)
+    return (s * grown + fill * (grown - 1) * pow(30, -1, PRIME)) % PRIME
+
+
+class Crate:
+    """The Rust crate, built into a folder."""
+
+    def __init__(self, folder):
+        self.program = os.path.join(folder, 'oracle')
+        subprocess.run([os.path.join(SHARED, 'oracle', 'build'), self.program], check=True)
+
+    def ask(self, plans, form):
+        """The crate's texts ('text') or graphs ('dot') of the plans."""
+        sent = b''.join(struct.pack('<I', len(f)) + f for f in map(rules.to_file, plans))
+        got = subprocess.run([self.program, form], input=sent, stdout=subprocess.PIPE, check=True).stdout
+        out, at = [], 0
+        while at < len(got):
+            n, = struct.unpack_from('<I', got, at)
+            out.append(got[at + 4:at + 4 + n])
+            at += 4 + n
+        assert len(out) == len(plans)
+        return out
+
+    def lines(self, requests):
+        """The line that each request must get."""
+        given = {}
+        for form in ('text', 'dot'):
+            asked = [k for k, r in enumerate(requests) if r.plan is not None and r.form == form]
+            given.update(zip(asked, self.ask([requests[k].plan for k in asked], form)))
+        return [r.line(given.get(k)) for k, r in enumerate(requests)]
+
+
+# ---- plans
+
+LETTERS = list('ab c0 │─╭╮╰╯┴┬┌π') + ['é', '"', '\\', '\n', '\n', '\u3000', '漢', '𝄞', '\U0010ffff', '\r', '\t', '\x00', '\x7f', '-', '+', '|', '\u00a0', '\u2028']
+
+
+def laid(plan):
+    """Table and title bytes of a plan, titles one after another."""
+    table, at = [], 0
+    for d, t in plan:
+        table += [d, at, len(t)]
+        at += len(t)
+    return table, b''.join(t for _, t in plan)
+
+
+def random_title(rng):
+    kind = rng.random()
+    if kind < .01: return ('x' * rng.choice([1022, 1023, 1024])).encode()
+    if kind < .03: return ''.join(rng.choice(LETTERS) for _ in range(200)).encode()
+    return ''.join(rng.choice(LETTERS) for _ in range(rng.choice([1, 2, 3, 8, 20]))).encode()
+
+
+def random_plan(rng):
+    """1 to 256 nodes on 1 to 32 levels, some with empty titles."""
+    most, deepest = rng.choice([1, 3, 6, 12, 12, 12, 40, 100 if rng.random() < .2 else 7, 256 if rng.random() < .1 else 5]), rng.choice([1, 2, 5, 12, 31])
+    empty, chain, wide = rng.choice([0, 0, .2, .6, 1]), rng.random() < .3, rng.random() < .5
+    if rng.random() < .005: return [(min(k, 1), b'\n' * rng.randrange(40) + b'x' * rng.randrange(900)) for k in range(rng.randrange(20, 256))]  # large ones
+    plan = []
+    for k in range(rng.randint(1, most)):
+        high = min(deepest, plan[-1][0] + 1) if plan else 0
+        depth = 0 if not plan else high if chain and rng.random() < .8 else rng.randint(1, max(high, 1))
+        title = b'' if rng.random() < empty else random_title(rng) if wide else rng.choice('abcdef').encode()
+        plan.append((depth, title))
+    return plan
+
+
+def overlapped(rng, plan):
+    """The plan's depths, with titles that are parts of one short text and overlap."""
+    text = ''.join(rng.choice(LETTERS) for _ in range(30))
+    ends = [len(text[:k].encode()) for k in range(31)]
+    table = []
+    for d, _ in plan:
+        a, b = sorted((rng.randrange(31), rng.randrange(31)))
+        table += [d, ends[a], ends[b] - ends[a]]
+    return table, text.encode()
