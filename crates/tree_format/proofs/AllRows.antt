@@ -11,7 +11,8 @@ use Rattle.rules.specs.Levels.{rowsOf, view}
 use Rattle.rules.specs.Graph.{Form}
 use Rattle.levels.proofs.Plans.{rows-bytes}
 use Rattle.tree_format.specs.Entries.{lead, rowEntries, entriesIn}
-use Rattle.tree_format.proofs.Concats.{concat-append, concat-each, each-fewer}
+use Rattle.rules.proofs.Lists.{concat-append}
+use Rattle.tree_format.proofs.Concats.{concat-each, each-fewer}
 
 pub no-rows : (form : Form) (p : List Node) → concat lead (entriesIn form p 0) ≡ []
 unfolding entriesIn each concat

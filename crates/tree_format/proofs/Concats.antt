@@ -8,13 +8,9 @@ use native.Mathlib.Nat.{mul-suc, mul-zero, eq-or-lt-of-le}
 use native.Mathlib.Omega.{arith}
 use lib.ListN.{length, length-append}
 use Rattle.rules.specs.Base.{pick, keep, concat, each}
+use Rattle.rules.proofs.Lists.{concat-append}
 
 module _ {A B : Type 0} where
-  pub concat-append : (f : A → List B) (l m : List A) → concat f (l ++ m) ≡ concat f l ++ concat f m
-  unfolding concat
-  concat-append f [] m = refl
-  concat-append f (a ∷ l) m = rw (concat-append f l m) (sym (append-assoc (f a) (concat f l) (concat f m)))
-
   -- an entry for each place, one after another
   pub concat-each : (f : A → List B) (g : ℕ → List A) (n : ℕ) → concat f (each g n) ≡ each (λ k. concat f (g k)) n
   unfolding concat each

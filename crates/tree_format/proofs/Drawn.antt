@@ -4,6 +4,8 @@ use mathlib.Core.Path.{_≡_, refl, ap, sym, _∙_}
 use mathlib.Core.List.{List}
 use mathlib.Core.Bool.{Bool, true, false, _&&_, _||_}
 use Prim.Native.Nat.{ℕ, _≤_, _<_}
+use native.Mathlib.Decide.{decLe}
+use native.Mathlib.Omega.{arith}
 use lib.Dec.{ltb, eqb}
 use lib.ListN.{length}
 use borrow.Author.Tests.{lt-ltb, le-ltb}
@@ -18,11 +20,15 @@ use Rattle.rules.specs.declared.Answer.{Answer}
 use Rattle.rules.specs.declared.Drawing.{Drawing}
 use Rattle.levels.specs.Accepted.{checked}
 use Rattle.levels.proofs.Accepted.{checked-next, checked-stops}
-use Rattle.tree_format.specs.Drawn.{Drawn}
+use Rattle.tree_format.specs.Drawn.{Drawn, nothing, Written}
 
--- an answer without a drawing
-abbrev pub nothing : Answer → Drawing
-nothing a = record { answer = a; width = 0; height = 0; untitled = 0 }
+-- the last step, as its two ends show it
+pub told : {t out : List ℕ} {w h u need : ℕ} {r : Drawing} → need ≡ length t → length out < need → r ≡ nothing (Answer.Room need) → Written t out w h u r out
+told e l q = record { short = λ s. (q ∙ ap (λ n. nothing (Answer.Room n)) e, refl); enough = λ s. absurd (omega arith) }
+
+pub stored : {t out out′ : List ℕ} {w h u w′ h′ u′ need n : ℕ} → need ≡ length t → need ≤ length out → n ≡ length t → w′ ≡ w → h′ ≡ h → u′ ≡ u
+    → out′ ≡ laid t out → Written t out w h u (record { answer = Answer.Done n; width = w′; height = h′; untitled = u′ }) out′
+stored e l n a b c o = record { short = λ s. absurd (omega arith); enough = λ s. (rw (n, a, b, c), o) }
 
 -- an answer that is neither done nor ROOM leaves all memory as it was
 untouched : (T B canvas out : List ℕ) (a : Answer) → answer length boxes T B (length canvas) (length out) ≡ a → done a ≡ false → eqb (number a) 9 ≡ false
@@ -101,3 +107,15 @@ module _ (T B canvas₀ out : List ℕ) (ok : done (checked true T B) ≡ true) 
       let e : answer length boxes T B (length canvas₀) (length out) ≡ Answer.Done bytes =
       past ∙ rw (le-ltb mostCells needed l, le-ltb (length canvas₀) needed m, le-ltb (length out) bytes h) in
       record { answered = rw e; canvas-left = rw e; out-left = rw e }
+
+  -- the last step decides between the two
+  pub last-step : (r : Drawing) (cells out′ : List ℕ) → needed ≤ mostCells → needed ≤ length canvas₀ → cells ≡ laid (canvas length boxes (planOf T B)) canvas₀
+      → Written (text length boxes (planOf T B)) out (canvasWidth length (view (planOf T B))) (canvasHeight (view (planOf T B))) (untitled (planOf T B)) r out′
+      → Drawn T B canvas₀ out r cells out′
+  last-step r cells out′ l m e w =
+      elim (decLe bytes (length out)) [
+        | yes h ↦ rw (e, w .enough h .0, w .enough h .1) (finished l m h)
+        | no h ↦
+            (let k : length out < bytes = omega arith in
+            rw (e, w .short k .0, w .short k .1) (short-room l m k))
+      ]

@@ -10,3 +10,8 @@ pub mod Joined
 pub mod Rows
 pub mod AllRows
 pub mod Graphs
+pub mod Picture
+pub mod Strokes
+pub mod Boxes
+pub mod Whole
+pub mod Measures

@@ -9,14 +9,8 @@ use native.Mathlib.Omega.{arith}
 use lib.ListN.{length, set, getD, drop, length-append, drop-of-length-le}
 use lib.Seq.{sets, length-sets, drop-cons}
 use Rattle.rules.specs.Base.{concat}
+use Rattle.canvas.proofs.Runs.{sets-append}
 use Rattle.tree_format.specs.Put.{Put}
-
--- two parts, one after the other
-pub sets-append : (a b l : List ℕ) (at : ℕ) → sets l at (a ++ b) ≡ sets (sets l at a) (at + length a) b
-sets-append [] b l at = rw add-zero
-sets-append (x ∷ a) b l at =
-    let e : suc at + length a ≡ at + suc (length a) = omega arith in
-    sets-append a b (set l at x) (suc at) ∙ rw e
 
 -- nothing is put
 pub idle : (at : ℕ) (l : List ℕ) → Put [] at l l at
@@ -31,7 +25,7 @@ pub then : {a b : List ℕ} {at : ℕ} {l m n : List ℕ} {p q : ℕ} → Put a 
 then {a} {b} {at} {l} x y =
     record {
       place = omega (arith, x .place, y .place, length-append a b);
-      holds = rw (y .holds, x .holds, x .place, ← sets-append a b l at);
+      holds = rw (y .holds, x .holds, x .place, ← sets-append l at a b);
     }
 
 pub record Left (W : List ℕ) (at : ℕ) (l rest : List ℕ) (to : ℕ) (m : List ℕ) : Type 0 where
@@ -53,7 +47,7 @@ module _ {W : List ℕ} {at : ℕ} {l : List ℕ} where
       record {
         same = g ∙ h .same;
         place = omega (arith, h .place, p .place);
-        puts = rw (p .holds, p .place, ← sets-append x more m to, ← e) (h .puts);
+        puts = rw (p .holds, p .place, ← sets-append m to x more, ← e) (h .puts);
       }
 
   -- it fits, as the whole does

@@ -24,7 +24,7 @@ use Rattle.levels.proofs.Cells.{children-between}
 use Rattle.tree_format.specs.Entries.{lead, edgeIn, edgesIn, nodeIn, backward, rowEntries}
 use Rattle.tree_format.proofs.Entries.{name-place}
 use Rattle.tree_format.proofs.Backward.{back-end, back-here, back-past}
-use Rattle.tree_format.proofs.Concats.{concat-append}
+use Rattle.rules.proofs.Lists.{concat-append}
 
 -- an edge goes by the places of its nodes
 edge-place : (form : Form) (T B : List ℕ) (k m : ℕ) → k < count T → m < count T

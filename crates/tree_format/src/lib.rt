@@ -1,8 +1,13 @@
-// What is made of a plan: its graphs, and each answer's numbers.
+// The entries: the text drawing, the crate's graph, the fenced graph; and each answer's numbers.
+mod draw;
 mod graph;
+mod labels;
 mod numbers;
+mod outside;
 mod put;
+mod view;
 
+pub use draw::tree_fmt_text;
 pub use graph::tree_fmt_dot;
 pub use graph::tree_fmt_fenced;
 pub use numbers::done;

@@ -1,0 +1,75 @@
+// The boxes of the cells.
+ghost use mathlib.Core.Path.{_≡_};
+ghost use Prim.Native.Nat.{ℕ, _*_, _≤_, _<_};
+ghost use lib.ListN.{length, getD};
+ghost use Rattle.rules.specs.Base.{concat};
+ghost use Rattle.rules.specs.Plan.{count, planOf};
+ghost use Rattle.rules.specs.Levels.{cellAt, view};
+ghost use Rattle.rules.specs.Drawing.{boxes, box};
+ghost use Rattle.canvas.specs.Stroked.{stroked};
+ghost use Rattle.levels.specs.Accepted.{Accepted};
+ghost use Rattle.tree_format.specs.Placed.{Placed};
+use canvas::Size;
+
+// The box of node k, if it has a cell.
+fn label(
+    cells: &mut [u32],
+    size: Size,
+    table: &[u32],
+    k: usize,
+    titles: &[u8],
+    cy: &[u32; 32],
+    middle: u32,
+    lines: u32,
+    longest: u32,
+)
+    requires { ⌜ (size .width * size .height ≤ length (now cells)) × Accepted (now table) (now titles) × (k < count (now table)) ⌝ }
+    requires { ⌜ Placed (planOf (now table) (now titles)) k (now cy) middle lines longest ⌝ }
+    ensures { λ _. ⌜ now (cells .exit)
+        ≡ stroked (size .width) (size .height)
+        (concat (box length boxes (view (planOf (now (table .entry)) (now (titles .entry))))) (cellAt (planOf (now (table .entry)) (now (titles .entry))) k))
+        (now (cells .entry)) ⌝ }
+{
+    if lines == 0 {
+        return;
+    }
+    let y = cy[text::wide(table[3 * k])];
+    let title = levels::title(table, k, titles);
+    canvas::draw_label_centered(cells, size, middle, y, title, lines, longest);
+}
+
+// The boxes of all cells, in the table's order.
+pub fn labels(
+    cells: &mut [u32],
+    size: Size,
+    table: &[u32],
+    nodes: usize,
+    titles: &[u8],
+    cy: &[u32; 32],
+    middle: &[u32; 256],
+    lines: &[u32; 256],
+    longest: &[u32; 256],
+)
+    requires { ⌜ (size .width * size .height ≤ length (now cells)) × Accepted (now table) (now titles) × (nodes ≡ count (now table)) ⌝ }
+    requires { ⌜ ((k : ℕ) → k < nodes → Placed (planOf (now table) (now titles)) k (now cy) (getD (now middle) k 0) (getD (now lines) k 0) (getD (now longest) k 0)) ⌝ }
+    ensures { λ _. ⌜ now (cells .exit)
+        ≡ stroked (size .width) (size .height)
+        (concat (box length boxes (view (planOf (now (table .entry)) (now (titles .entry))))) (view (planOf (now (table .entry)) (now (titles .entry))) .cells))
+        (now (cells .entry)) ⌝ }
+{
+    let mut k = 0;
+    while k < nodes {
+        label(
+            cells,
+            size,
+            table,
+            k,
+            titles,
+            cy,
+            middle[k],
+            lines[k],
+            longest[k],
+        );
+        k += 1;
+    }
+}

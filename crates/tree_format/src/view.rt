@@ -1,0 +1,133 @@
+// The whole drawing on a canvas that suffices.
+ghost use mathlib.Core.Path.{_≡_};
+ghost use Prim.Native.Nat.{ℕ, _+_, _*_, _-_, _≤_, _<_};
+ghost use lib.ListN.{length, getD};
+ghost use Rattle.rules.specs.Base.{each, laid};
+ghost use Rattle.rules.specs.Plan.{count, planOf};
+ghost use Rattle.rules.specs.Levels.{view};
+ghost use Rattle.rules.specs.Drawing.{boxes, canvas};
+ghost use Rattle.canvas.specs.Stroked.{stroked};
+ghost use Rattle.canvas.specs.Connect.{connectionsAt, Spread};
+ghost use Rattle.levels.specs.Accepted.{Accepted};
+ghost use Rattle.tree_format.specs.Sized.{Measured, Laid, Sized, Arrays, gapAt};
+use crate::labels;
+use crate::outside;
+use canvas::Gap;
+use canvas::Size;
+use tree_view::Columns;
+use tree_view::Rows;
+
+// The connectors of all rows but the last: the bend row is two above the next row's offset.
+fn connectors(
+    cells: &mut [u32],
+    size: Size,
+    table: &[u32],
+    nodes: usize,
+    offset: &[u32; 32],
+    cy: &[u32; 32],
+    rows: u32,
+    middle: &[u32; 256],
+    lines: &[u32; 256],
+)
+    requires { ⌜ (size .width * size .height ≤ length (now cells)) × (0 < rows) × (rows ≤ 32) ⌝ }
+    requires { ⌜ ((i : ℕ) → i + 1 < rows → (2 ≤ getD (now offset) (i + 1) 0) × Spread (now table) nodes (now middle) (now lines) (gapAt (now cy) (now offset) i)) ⌝ }
+    ensures { λ _. ⌜ now (cells .exit)
+        ≡ stroked (size .width) (size .height)
+        (each (λ i. connectionsAt (now (middle .entry)) (now (lines .entry)) (gapAt (now (cy .entry)) (now (offset .entry)) i) (now (table .entry)) nodes) (rows - 1))
+        (now (cells .entry)) ⌝ }
+{
+    let mut i = 0;
+    while i + 1 < rows {
+        let k = text::wide(i);
+        let gap = Gap {
+            depth: i,
+            cy: cy[k],
+            bend: offset[k + 1] - 2,
+            below: cy[k + 1],
+        };
+        canvas::draw_connections(cells, size, table, nodes, middle, lines, gap);
+        i += 1;
+    }
+}
+
+// The strokes of a plan: the outside, the boxes, the connectors.
+fn draw_view(
+    cells: &mut [u32],
+    size: Size,
+    table: &[u32],
+    nodes: usize,
+    titles: &[u8],
+    cx: &[u32; 256],
+    columns: u32,
+    cy: &[u32; 32],
+    offset: &[u32; 32],
+    rows: u32,
+    middle: &[u32; 256],
+    lines: &[u32; 256],
+    longest: &[u32; 256],
+)
+    requires { ⌜ (size .width * size .height ≤ length (now cells)) × Accepted (now table) (now titles) × (nodes ≡ count (now table)) × (0 < nodes) ⌝ }
+    requires { ⌜ (columns ≡ view (planOf (now table) (now titles)) .columns) × (rows ≡ view (planOf (now table) (now titles)) .rows) ⌝ }
+    requires { ⌜ Sized (view (planOf (now table) (now titles))) size ⌝ }
+    requires { ⌜ Arrays (planOf (now table) (now titles)) (now cx) (now cy) (now offset) (now middle) (now lines) (now longest) ⌝ }
+    ensures { λ _. ⌜ now (cells .exit) ≡ laid (canvas length boxes (planOf (now (table .entry)) (now (titles .entry)))) (now (cells .entry)) ⌝ }
+{
+    let d = tree_view::index_digits(rows);
+    outside::outside(cells, size, cx, columns, cy, rows, d);
+    labels::labels(
+        cells,
+        size,
+        table,
+        nodes,
+        titles,
+        cy,
+        middle,
+        lines,
+        longest,
+    );
+    connectors(cells, size, table, nodes, offset, cy, rows, middle, lines);
+}
+
+// Draws a plan of these columns and rows on cells that suffice.
+pub fn painted(
+    table: &[u32],
+    nodes: usize,
+    titles: &[u8],
+    column: &[u32; 256],
+    lines: &[u32; 256],
+    longest: &[u32; 256],
+    columns: Columns,
+    ncols: u32,
+    rows: Rows,
+    nrows: u32,
+    size: Size,
+    cells: &mut [u32],
+)
+    requires { ⌜ (size .width * size .height ≤ length (now cells)) × Accepted (now table) (now titles) × (nodes ≡ count (now table)) × (0 < nodes) ⌝ }
+    requires { ⌜ Measured (now table) (now titles) (now column) (now lines) (now longest) ⌝ }
+    requires { ⌜ Laid (view (planOf (now table) (now titles))) columns ncols rows nrows × Sized (view (planOf (now table) (now titles))) size ⌝ }
+    ensures { λ _. ⌜ now (cells .exit) ≡ laid (canvas length boxes (planOf (now (table .entry)) (now (titles .entry)))) (now (cells .entry)) ⌝ }
+{
+    let mut cx = [0u32; 256];
+    let mut cy = [0u32; 32];
+    let mut middle = [0u32; 256];
+    tree_view::column_centers(columns, ncols, &mut cx);
+    tree_view::row_centers(rows, nrows, &mut cy);
+    tree_view::middles(nodes, column, &cx, &mut middle);
+    let offset = rows.offset;
+    draw_view(
+        cells,
+        size,
+        table,
+        nodes,
+        titles,
+        &cx,
+        ncols,
+        &cy,
+        &offset,
+        nrows,
+        &middle,
+        lines,
+        longest,
+    );
+}
