@@ -1,0 +1,169 @@
+// Answers many requests in one run, for tests: the numbers of each answer, and a checksum of all lent memory.
+mod lent;
+mod line;
+
+use plan_file::word;
+use plan_file::words;
+use rules::Answer;
+use text::wide;
+
+// Ends the run at a request that is none.
+fn bad() -> bool {
+    console::print(b"bad\n");
+    false
+}
+
+// The answer of a graph.
+fn graph(op: u32, table: &[u32], titles: &[u8], out: &mut [u8]) -> Answer {
+    if op == 1 {
+        return tree_format::tree_fmt_dot(table, titles, out);
+    }
+    tree_format::tree_fmt_fenced(table, titles, out)
+}
+
+// Draws a plan or its graph, and prints the answer.
+fn draw_plan(op: u32, table: &[u32], titles: &[u8], cells: &mut [u32], out: &mut [u8]) {
+    if op == 0 {
+        line::print_drawing(tree_format::tree_fmt_text(table, titles, cells, out));
+        return;
+    }
+    line::print_graph(graph(op, table, titles, out));
+}
+
+// The titles and the table of a payload: it is long enough, and has whole entries, as many as fit.
+fn plan_request(
+    op: u32,
+    payload: &[u8],
+    table: &mut [u32],
+    cells: &mut [u32],
+    out: &mut [u8],
+) -> bool {
+    let size = payload.len();
+    if size < 4 {
+        return false;
+    }
+    let bytes = wide(word(payload, 0));
+    if 262144 < bytes {
+        return false;
+    }
+    if size - 4 < bytes {
+        return false;
+    }
+    let end = bytes + 4;
+    let left = size - end;
+    if left % 4 != 0 {
+        return false;
+    }
+    let n = left / 4;
+    if table.len() < n {
+        return false;
+    }
+    words(payload, end, &mut table[..n]);
+    draw_plan(op, &table[..n], &payload[4..end], cells, out);
+    true
+}
+
+// Answers with the lent memory as it is.
+fn draw(op: u32, payload: &[u8], table: &mut [u32], cells: &mut [u32], out: &mut [u8]) -> bool {
+    if op == 4 {
+        line::print_drawing(plan_file::draw_file(payload, cells, out));
+        return true;
+    }
+    plan_request(op, payload, table, cells, out)
+}
+
+// Makes the lent memory fresh, answers, and sums the memory up.
+fn answer(op: u32, payload: &[u8], table: &mut [u32], cells: &mut [u32], out: &mut [u8]) -> bool {
+    lent::fresh_cells(cells);
+    lent::fresh_bytes(out);
+    if !draw(op, payload, table, cells, out) {
+        return bad();
+    }
+    line::print_sums(lent::sum_cells(cells), lent::sum_bytes(out), 0);
+    true
+}
+
+// The cells that a request lends: graphs use none.
+fn cells_of(op: u32, asked: usize) -> usize {
+    if op == 1 {
+        return 0;
+    }
+    if op == 2 {
+        return 0;
+    }
+    asked
+}
+
+// Ops 0, 1, 2 and 4 are answered.
+fn known(op: u32) -> bool {
+    if op == 3 {
+        return false;
+    }
+    op < 5
+}
+
+// Reads the payload of a request whose head was read, and answers it.
+fn request(
+    head: &[u8],
+    input: &mut [u8],
+    table: &mut [u32],
+    cells: &mut [u32],
+    out: &mut [u8],
+) -> bool {
+    let op = word(head, 0);
+    let lent1 = cells_of(op, wide(word(head, 4)));
+    let lent2 = wide(word(head, 8));
+    let size = wide(word(head, 16));
+    if !known(op) {
+        return bad();
+    }
+    if cells.len() < lent1 {
+        return bad();
+    }
+    if out.len() < lent2 {
+        return bad();
+    }
+    if input.len() < size {
+        return bad();
+    }
+    let got = console::read_all(&mut input[..size]);
+    if got.size < size {
+        return bad();
+    }
+    answer(
+        op,
+        &input[..size],
+        table,
+        &mut cells[..lent1],
+        &mut out[..lent2],
+    )
+}
+
+// Answers the next request, if there is one.
+fn next(input: &mut [u8], table: &mut [u32], cells: &mut [u32], out: &mut [u8]) -> bool {
+    let mut head = [0u8; 20];
+    let got = console::read_all(&mut head);
+    if got.failed {
+        return bad();
+    }
+    let n = got.size;
+    if n == 0 {
+        return false;
+    }
+    if n < 20 {
+        return bad();
+    }
+    request(&head, input, table, cells, out)
+}
+
+// Answers requests until the input ends. (A proved loop has to end, so it counts its turns down, from a number that no run uses up.)
+fn main() {
+    let mut input = [0u8; 524288];
+    let mut table = [0u32; 1024];
+    let mut cells = [0u32; 262144];
+    let mut out = [0u8; 524288];
+    let mut turns = u64::MAX;
+    while turns > 0 && next(&mut input, &mut table, &mut cells, &mut out) {
+        turns -= 1;
+    }
+}
