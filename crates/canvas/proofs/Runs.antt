@@ -11,13 +11,8 @@ use lib.Dec.{leb}
 use lib.ListN.{length, getD, set, replicate, length-set, length-replicate, replicate-append-replicate}
 use lib.Seq.{sets, length-sets, set-out, getD-set-same, getD-set-other}
 use borrow.Author.Tests.{le-leb, lt-leb}
+use Rattle.rules.proofs.Lists.{sets-append}
 use Rattle.rules.specs.Base.{pick}
-
-pub sets-append : (l : List ℕ) (i : ℕ) (vs us : List ℕ) → sets l i (vs ++ us) ≡ sets (sets l i vs) (i + length vs) us
-sets-append l i [] us = rw add-zero
-sets-append l i (v ∷ vs) us =
-    let e : suc i + length vs ≡ i + suc (length vs) = omega arith in
-    sets-append (set l i v) (suc i) vs us ∙ rw e
 
 pub sets-out : (l : List ℕ) (i : ℕ) (vs : List ℕ) → length l ≤ i → sets l i vs ≡ l
 sets-out l i [] h = refl

@@ -1,13 +1,9 @@
-// Symbols, lines, boxes, labels and connections on lent cells, and the text of finished cells.
-mod connect;
+// Symbols, lines, boxes and labels on lent cells.
 mod draw;
-mod emit;
 mod glyphs;
 mod label;
 mod row;
 
-pub use connect::Gap;
-pub use connect::draw_connections;
 pub use draw::Size;
 pub use draw::across;
 pub use draw::blank;
@@ -16,11 +12,6 @@ pub use draw::draw_axis;
 pub use draw::draw_box;
 pub use draw::index;
 pub use draw::symbol;
-pub use emit::bytes_to;
-pub use emit::text_bytes;
-pub use emit::trimmed;
-pub use emit::write_text;
-pub use emit::write_to;
 pub use glyphs::BOTTOM_LEFT;
 pub use glyphs::BOTTOM_RIGHT;
 pub use glyphs::CORNER;

@@ -1,4 +1,9 @@
 // The limits of document 01 and the answers that all crates share. Each answer's number and second number: specs/Numbers.antt.
+mod numbers;
+
+pub use numbers::done;
+pub use numbers::number;
+pub use numbers::second;
 
 pub const MOST_NODES: usize = 256;
 

@@ -1,15 +1,4 @@
-pub mod Puts
-pub mod Escapes
-pub mod Names
 pub mod Drawn
-pub mod Entries
-pub mod Backward
-pub mod Concats
-pub mod Bounds
-pub mod Joined
-pub mod Rows
-pub mod AllRows
-pub mod Graphs
 pub mod Picture
 pub mod Strokes
 pub mod Boxes

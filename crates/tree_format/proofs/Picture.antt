@@ -13,7 +13,7 @@ use Rattle.rules.specs.Measures.{canvasWidth, canvasHeight}
 use Rattle.rules.specs.Drawing.{boxes, picture, canvasOf, canvas, textOf, text}
 use Rattle.rules.proofs.Text.{textOf-same}
 use Rattle.rules.proofs.Lows.{picture-low}
-use Rattle.canvas.specs.Emit.{cellsOf}
+use Rattle.canvas_text.specs.Emit.{cellsOf}
 use Rattle.canvas.proofs.Stroked.{column-in, row-in, cell-in}
 use Rattle.canvas.proofs.Whole.{length-canvas, canvas-at}
 

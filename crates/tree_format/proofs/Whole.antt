@@ -18,10 +18,10 @@ use Rattle.rules.proofs.Digits.{digits-grow}
 use Rattle.rules.proofs.Text.{each-same, each-next}
 use Rattle.levels.specs.Accepted.{Accepted}
 use Rattle.canvas.specs.Stroked.{stroked}
-use Rattle.canvas.specs.Connect.{gapOf, connectionsAt, Spread}
+use Rattle.connections.specs.Connect.{gapOf, connectionsAt, Spread}
 use Rattle.canvas.proofs.Stroked.{then}
 use Rattle.canvas.proofs.Whole.{stroked-blank}
-use Rattle.canvas.proofs.Connected.{Held, spread, connections, connections-last}
+use Rattle.connections.proofs.Connected.{Held, spread, connections, connections-last}
 use Rattle.tree_view.proofs.Limits.{bend-row, rows-le, columns-le, d-le, cx-ge, canvas-width-le, canvas-height-le}
 use Rattle.tree_view.proofs.Ruled.{view-rows}
 use Rattle.tree_view.proofs.Table.{small}

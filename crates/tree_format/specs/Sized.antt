@@ -12,7 +12,7 @@ use Rattle.tree_view.specs.declared.heights.Rows.{Rows}
 use Rattle.tree_view.specs.Measured.{linesAt, longestAt}
 use Rattle.tree_view.specs.Ruled.{ruledColumns, ruledRows}
 use Rattle.canvas.specs.declared.draw.Size.{Size}
-use Rattle.canvas.specs.declared.connect.Gap.{Gap}
+use Rattle.connections.specs.declared.connect.Gap.{Gap}
 use Rattle.tree_format.specs.Placed.{Placed}
 
 -- the arrays of the nodes' columns, lines and longest lines

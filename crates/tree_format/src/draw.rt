@@ -9,10 +9,9 @@ ghost use Rattle.rules.specs.Levels.{columnsOf, view};
 ghost use Rattle.rules.specs.Drawing.{boxes, textOf};
 ghost use Rattle.rules.specs.Answers.{done, drawing, canvasAfter, outAfter};
 ghost use Rattle.levels.specs.Accepted.{checked};
-ghost use Rattle.canvas.specs.Emit.{cellsOf};
+ghost use Rattle.canvas_text.specs.Emit.{cellsOf};
 ghost use Rattle.tree_format.specs.Drawn.{nothing, Drawn, Written};
 ghost use Rattle.tree_format.specs.Sized.{Measured, Laid, Sized};
-use crate::numbers;
 use crate::view;
 use canvas::Size;
 use rules::Answer;
@@ -41,11 +40,11 @@ fn written(cells: &[u32], size: Size, untitled: u32, out: &mut [u8]) -> Drawing
 {
     let width = text::wide(size.width);
     let height = text::wide(size.height);
-    let need = canvas::text_bytes(cells, width, height);
+    let need = canvas_text::text_bytes(cells, width, height);
     if out.len() < need {
         return undrawn(Answer::Room(need));
     }
-    let bytes = canvas::write_text(cells, width, height, out);
+    let bytes = canvas_text::write_text(cells, width, height, out);
     Drawing {
         answer: Answer::Done(bytes),
         width,
@@ -209,7 +208,7 @@ pub fn tree_fmt_text(table: &[u32], titles: &[u8], canvas: &mut [u32], out: &mut
     ensures out_left { λ r. ⌜ now (out .exit) ≡ outAfter length boxes (now (table .entry)) (now (titles .entry)) (length (now (canvas .entry))) (now (out .entry)) ⌝ }
 {
     let refusal = levels::first_refusal(table, titles, true);
-    if numbers::done(refusal) {
+    if rules::done(refusal) {
         return drawn(table, titles, canvas, out);
     }
     undrawn(refusal)

@@ -7,13 +7,13 @@ ghost use Rattle.rules.specs.Plan.{count, planOf};
 ghost use Rattle.rules.specs.Levels.{view};
 ghost use Rattle.rules.specs.Drawing.{boxes, canvas};
 ghost use Rattle.canvas.specs.Stroked.{stroked};
-ghost use Rattle.canvas.specs.Connect.{connectionsAt, Spread};
+ghost use Rattle.connections.specs.Connect.{connectionsAt, Spread};
 ghost use Rattle.levels.specs.Accepted.{Accepted};
 ghost use Rattle.tree_format.specs.Sized.{Measured, Laid, Sized, Arrays, gapAt};
 use crate::labels;
 use crate::outside;
-use canvas::Gap;
 use canvas::Size;
+use connections::Gap;
 use tree_view::Columns;
 use tree_view::Rows;
 
@@ -45,7 +45,7 @@ fn connectors(
             bend: offset[k + 1] - 2,
             below: cy[k + 1],
         };
-        canvas::draw_connections(cells, size, table, nodes, middle, lines, gap);
+        connections::draw_connections(cells, size, table, nodes, middle, lines, gap);
         i += 1;
     }
 }

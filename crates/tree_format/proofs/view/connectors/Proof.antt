@@ -5,7 +5,7 @@ use native.Mathlib.Omega.{arith}
 use lib.ListN.{length}
 use Rattle.rules.specs.Base.{each}
 use Rattle.canvas.specs.Stroked.{stroked}
-use Rattle.canvas.specs.Connect.{connectionsAt}
+use Rattle.connections.specs.Connect.{connectionsAt}
 use Rattle.tree_format.specs.Sized.{gapAt}
 use Rattle.tree_format.proofs.Strokes.{none-yet, one-more}
 use borrow.Author.Needs.{needs}

@@ -1,0 +1,108 @@
+-- Cells by fours and sixteens: the bytes of sixteen are those of four fours, and a four of plain cells, or of marks ─, is known at sight.
+use mathlib.Core.Path.{_≡_, refl, ap, _∙_}
+use mathlib.Core.List.{List, _++_}
+use Prim.Native.Nat.{ℕ, _+_, _-_, _≤_, _<_}
+use native.Mathlib.Nat.{add-zero, add-assoc}
+use native.Mathlib.Omega.{arith}
+use lib.ListN.{length, getD}
+use lib.Seq.{sets}
+use Rattle.rules.specs.Base.{each, pick}
+use Rattle.rules.specs.Utf8.{utf8}
+use Rattle.rules.proofs.Chars.{utf8-one}
+use Rattle.rules.proofs.Text.{each-next, each-room, each-rises, each-add}
+use Rattle.canvas_text.specs.Emit.{rowOf, fourAt, Same, Plain, cellsIn, lineBytes, bytesTo, bytesIn}
+use Rattle.canvas_text.specs.declared.emit.Four.{Four}
+use Rattle.canvas_text.proofs.EmitRow.{stored}
+
+-- n cells from x on, and the next
+module _ (row : List ℕ) (x n : ℕ) where
+  pub in-next : bytesIn row x (n + 1) ≡ bytesIn row x n ++ utf8 (getD row (x + n) 0)
+  unfolding bytesIn rowOf
+  in-next = each-next (λ k. utf8 (getD row (x + k) 0)) n
+
+  pub in-room : (e : ℕ) → n < e → length (bytesIn row x n) + length (utf8 (getD row (x + n) 0)) ≤ length (bytesIn row x e)
+  unfolding bytesIn rowOf
+  in-room e h = each-room (λ k. utf8 (getD row (x + k) 0)) n e h
+
+  -- the cells before x, and n more
+  pub to-add : bytesTo row (x + n) ≡ bytesTo row x ++ bytesIn row x n
+  unfolding bytesTo bytesIn rowOf
+  to-add = each-add (λ k. utf8 (getD row k 0)) x n
+
+-- the cells before x, and all the others before e
+pub to-end : (row : List ℕ) (x e : ℕ) → x ≤ e → bytesTo row e ≡ bytesTo row x ++ bytesIn row x (e - x)
+to-end row x e h = let k : e ≡ x + (e - x) = omega arith in ap (bytesTo row) k ∙ to-add row x (e - x)
+
+pub bytes-within : (row : List ℕ) (x e : ℕ) → x ≤ e → length (bytesTo row x) ≤ length (bytesTo row e)
+unfolding bytesTo
+bytes-within row x e h = each-rises (λ k. utf8 (rowOf row k 0)) x e h
+
+pub in-add : (row : List ℕ) (x m n : ℕ) → bytesIn row x (m + n) ≡ bytesIn row x m ++ bytesIn row (x + m) n
+unfolding bytesIn rowOf
+in-add row x m n =
+    each-add (λ k. utf8 (getD row (x + k) 0)) m n
+    ∙ ap (λ (l : List ℕ). each (λ k. utf8 (getD row (x + k) 0)) m ++ l) (simp (← add-assoc))
+
+module _ (row : List ℕ) (x : ℕ) where
+  pub sixteen : bytesIn row x 16 ≡ bytesIn row x 4 ++ bytesIn row (x + 4) 4 ++ bytesIn row (x + 8) 4 ++ bytesIn row (x + 12) 4
+  sixteen = in-add row x 12 4 ∙ rw (in-add row x 8 4, in-add row x 4 4)
+
+  plain-four : Plain (fourAt row x) → bytesIn row x 4 ≡ cellsIn (fourAt row x)
+  unfolding bytesIn rowOf each
+  plain-four p = rw (add-zero x, utf8-one (getD row x 0) (p .a), utf8-one (getD row (x + 1) 0) (p .b), utf8-one (getD row (x + 2) 0) (p .c), utf8-one (getD row (x + 3) 0) (p .d))
+
+  line-four : Same (fourAt row x) 0x2500 → bytesIn row x 4 ≡ lineBytes 4
+  unfolding bytesIn rowOf lineBytes each
+  line-four s = rw (add-zero x, s .a, s .b, s .c, s .d)
+
+lines : lineBytes 4 ++ lineBytes 4 ++ lineBytes 4 ++ lineBytes 4 ≡ lineBytes 16
+unfolding lineBytes each utf8 pick
+lines = refl
+
+-- sixteen cells as four fours, all plain or all ─
+module _ (row : List ℕ) (x : ℕ) (a b c d : Four) (ea : a ≡ fourAt row x) (eb : b ≡ fourAt row (x + 4)) (ec : c ≡ fourAt row (x + 8)) (ed : d ≡ fourAt row (x + 12)) where
+  pub plain-sixteen : Plain a → Plain b → Plain c → Plain d → bytesIn row x 16 ≡ cellsIn a ++ cellsIn b ++ cellsIn c ++ cellsIn d
+  plain-sixteen pa pb pc pd =
+      sixteen row x
+      ∙ rw (
+        plain-four row x (rw ea at pa),
+        plain-four row (x + 4) (rw eb at pb),
+        plain-four row (x + 8) (rw ec at pc),
+        plain-four row (x + 12) (rw ed at pd),
+        ea,
+        eb,
+        ec,
+        ed,
+      )
+
+  pub line-sixteen : Same a 0x2500 → Same b 0x2500 → Same c 0x2500 → Same d 0x2500 → bytesIn row x 16 ≡ lineBytes 16
+  line-sixteen sa sb sc sd =
+      sixteen row x
+      ∙ rw (
+        line-four row x (rw ea at sa),
+        line-four row (x + 4) (rw eb at sb),
+        line-four row (x + 8) (rw ec at sc),
+        line-four row (x + 12) (rw ed at sd),
+      )
+      lines
+
+-- n marks ─, and the next
+pub line-next : (n : ℕ) → lineBytes (n + 1) ≡ lineBytes n ++ utf8 0x2500
+unfolding lineBytes
+line-next n = each-next (λ k. utf8 0x2500) n
+
+pub line-length : length (lineBytes 16) ≡ 48
+unfolding lineBytes each utf8 pick
+line-length = refl
+
+pub mark-length : length (utf8 0x2500) ≡ 3
+unfolding utf8 pick
+mark-length = refl
+
+-- four fours stored one after the other
+pub fours-stored : (a b c d : Four) (l m n o p : List ℕ) (at : ℕ) → m ≡ sets l at (cellsIn a) → n ≡ sets m (at + 4) (cellsIn b) → o ≡ sets n (at + 8) (cellsIn c)
+    → p ≡ sets o (at + 12) (cellsIn d) → p ≡ sets l at (cellsIn a ++ cellsIn b ++ cellsIn c ++ cellsIn d)
+fours-stored a b c d l m n o p at e f g h =
+    stored l o p at (at + 12) (cellsIn a ++ cellsIn b ++ cellsIn c) (cellsIn d) refl
+    (stored l n o at (at + 8) (cellsIn a ++ cellsIn b) (cellsIn c) refl (stored l m n at (at + 4) (cellsIn a) (cellsIn b) refl e f) g)
+    h

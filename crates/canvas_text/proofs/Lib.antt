@@ -1,0 +1,3 @@
+pub mod EmitRow
+pub mod EmitText
+pub mod EmitBlock

@@ -1,0 +1,269 @@
+// Cells as text.
+ghost use mathlib.Core.Path.{_≡_};
+ghost use mathlib.Core.Bool.{true};
+ghost use mathlib.Core.List.{_++_};
+ghost use Prim.Native.Nat.{ℕ, _+_, _*_, _<_, _≤_};
+ghost use lib.ListN.{length, getD};
+ghost use lib.Seq.{sets};
+ghost use Rattle.rules.specs.Base.{laid};
+ghost use Rattle.rules.specs.Utf8.{utf8};
+ghost use Rattle.rules.specs.Drawing.{endOf, textOf};
+ghost use Rattle.canvas_text.specs.Emit.{cellsOf, rowOf, fourAt, Same, Plain, Over, cellsIn, lineBytes, endIn, bytesTo, bytesIn, rowIn};
+
+// Four cells side by side. (A row is looked at in fours and sixteens, which the compiler keeps in wide registers.)
+pub struct Four {
+    pub a: u32,
+    pub b: u32,
+    pub c: u32,
+    pub d: u32,
+}
+
+// The four cells from x on.
+fn four_at(row: &[u32], x: usize) -> Four
+    requires { ⌜ x + 4 ≤ length (now row) ⌝ }
+    ensures { λ r. ⌜ r ≡ fourAt (now (row .entry)) x ⌝ }
+{
+    Four {
+        a: row[x],
+        b: row[x + 1],
+        c: row[x + 2],
+        d: row[x + 3],
+    }
+}
+
+// All four hold.
+fn all(a: bool, b: bool, c: bool, d: bool) -> bool
+    ensures { λ r. ⌜ (r ≡ true → (a ≡ true) × (b ≡ true) × (c ≡ true) × (d ≡ true)) ⌝ }
+{
+    if a {
+        if b {
+            if c {
+                return d;
+            }
+        }
+    }
+    false
+}
+
+// All four cells are v, if it says so.
+fn same(f: Four, v: u32) -> bool
+    ensures { λ r. ⌜ (r ≡ true → Same f v) ⌝ }
+{
+    all(f.a == v, f.b == v, f.c == v, f.d == v)
+}
+
+// All four cells take one byte, if it says so.
+fn plain(f: Four) -> bool
+    ensures { λ r. ⌜ (r ≡ true → Plain f) ⌝ }
+{
+    all(f.a < 0x80, f.b < 0x80, f.c < 0x80, f.d < 0x80)
+}
+
+// The length of a row's first `from` cells without the spaces at their end.
+fn last(row: &[u32], from: usize) -> usize
+    requires { ⌜ from ≤ length (now row) ⌝ }
+    ensures { λ r. ⌜ r ≡ endOf (rowOf (now (row .entry))) 0 from ⌝ }
+{
+    let mut end = from;
+    while 0 < end {
+        if row[end - 1] != 0x20 {
+            return end;
+        }
+        end -= 1;
+    }
+    0
+}
+
+// The length of a row without the spaces at its end.
+pub fn trimmed(row: &[u32]) -> usize
+    ensures { λ r. ⌜ r ≡ endIn (now (row .entry)) ⌝ }
+{
+    let mut end = row.len();
+    while 8 <= end {
+        let p = four_at(row, end - 8);
+        let q = four_at(row, end - 4);
+        if !all(same(p, 0x20), same(q, 0x20), true, true) {
+            return last(row, end);
+        }
+        end -= 8;
+    }
+    last(row, end)
+}
+
+// 1 from w on, else 0.
+fn over(v: u32, w: u32) -> u32
+    ensures { λ r. ⌜ Over v w r ⌝ }
+{
+    if v < w {
+        return 0;
+    }
+    1
+}
+
+// The bytes of a cell after its first. (No branch: so the loop that sums them is done four cells at a time.)
+fn more(v: u32) -> u32
+    ensures { λ r. ⌜ r + 1 ≡ length (utf8 v) ⌝ }
+{
+    over(v, 0x80) + over(v, 0x800) + over(v, 0x10000)
+}
+
+// The bytes of the first `end` cells of a row.
+pub fn bytes_to(row: &[u32], end: usize) -> usize
+    requires { ⌜ (end ≤ length (now row)) × (end ≤ 1048576) ⌝ }
+    ensures { λ r. ⌜ r ≡ length (bytesTo (now (row .entry)) end) ⌝ }
+{
+    let mut sum = 0;
+    let mut x = 0;
+    while x < end {
+        sum += more(row[x]);
+        x += 1;
+    }
+    end + text::wide(sum)
+}
+
+// The bytes of a row's text and its 0A.
+fn row_bytes(row: &[u32]) -> usize
+    requires { ⌜ length (now row) ≤ 1048576 ⌝ }
+    ensures { λ r. ⌜ r ≡ length (rowIn (now (row .entry))) ⌝ }
+{
+    bytes_to(row, trimmed(row)) + 1
+}
+
+// The bytes of the whole text.
+pub fn text_bytes(cells: &[u32], width: usize, height: usize) -> usize
+    requires { ⌜ (width * height ≤ length (now cells)) × (width * height ≤ 1048576) × (height ≤ 65536) ⌝ }
+    ensures { λ r. ⌜ r ≡ length (textOf (cellsOf (now (cells .entry)) width) width height) ⌝ }
+{
+    let mut bytes = 0;
+    let mut y = 0;
+    while y < height {
+        let from = y * width;
+        let to = from + width;
+        bytes += row_bytes(&cells[from..to]);
+        y += 1;
+    }
+    bytes
+}
+
+// Writes four cells of one byte each.
+fn put_four(f: Four, out: &mut [u8], at: usize)
+    requires { ⌜ Plain f ⌝ }
+    requires { ⌜ at + 4 ≤ length (now out) ⌝ }
+    ensures { λ r. ⌜ now (out .exit) ≡ sets (now (out .entry)) at (cellsIn f) ⌝ }
+{
+    out[at] = f.a as u8;
+    out[at + 1] = f.b as u8;
+    out[at + 2] = f.c as u8;
+    out[at + 3] = f.d as u8;
+}
+
+// Writes sixteen cells of one byte each, and answers the place after them.
+fn put_plain(a: Four, b: Four, c: Four, d: Four, out: &mut [u8], at: usize) -> usize
+    requires { ⌜ (Plain a) × (Plain b) × (Plain c) × (Plain d) ⌝ }
+    requires { ⌜ at + 16 ≤ length (now out) ⌝ }
+    ensures { λ r. ⌜ (r ≡ at + 16) × (now (out .exit) ≡ sets (now (out .entry)) at (cellsIn a ++ cellsIn b ++ cellsIn c ++ cellsIn d)) ⌝ }
+{
+    put_four(a, out, at);
+    put_four(b, out, at + 4);
+    put_four(c, out, at + 8);
+    put_four(d, out, at + 12);
+    at + 16
+}
+
+// Writes sixteen marks ─, and answers the place after them.
+fn put_line(out: &mut [u8], at: usize) -> usize
+    requires { ⌜ at + 48 ≤ length (now out) ⌝ }
+    ensures { λ r. ⌜ (r ≡ at + 48) × (now (out .exit) ≡ sets (now (out .entry)) at (lineBytes 16)) ⌝ }
+{
+    let mut to = at;
+    let mut k = 0usize;
+    while k < 16 {
+        to = text::encode(0x2500, out, to);
+        k += 1;
+    }
+    to
+}
+
+// Writes n cells from x on, one by one, and answers the place after them.
+fn put_cells(row: &[u32], x: usize, n: usize, out: &mut [u8], at: usize) -> usize
+    requires { ⌜ (x + n ≤ length (now row)) × (at + length (bytesIn (now row) x n) ≤ length (now out)) ⌝ }
+    requires { ⌜ ((i : ℕ) → i < n → getD (now row) (x + i) 0 < 0x200000) ⌝ }
+    ensures { λ r. ⌜ (r ≡ at + length (bytesIn (now (row .entry)) x n)) × (now (out .exit) ≡ sets (now (out .entry)) at (bytesIn (now (row .entry)) x n)) ⌝ }
+{
+    let mut to = at;
+    let mut k = 0;
+    while k < n {
+        to = text::encode(row[x + k], out, to);
+        k += 1;
+    }
+    to
+}
+
+// Writes sixteen cells from x on, and answers the place after them. Most are all plain or all ─.
+fn put_sixteen(row: &[u32], x: usize, out: &mut [u8], at: usize) -> usize
+    requires { ⌜ (x + 16 ≤ length (now row)) × (at + length (bytesIn (now row) x 16) ≤ length (now out)) ⌝ }
+    requires { ⌜ ((i : ℕ) → i < 16 → getD (now row) (x + i) 0 < 0x200000) ⌝ }
+    ensures { λ r. ⌜ (r ≡ at + length (bytesIn (now (row .entry)) x 16)) × (now (out .exit) ≡ sets (now (out .entry)) at (bytesIn (now (row .entry)) x 16)) ⌝ }
+{
+    let a = four_at(row, x);
+    let b = four_at(row, x + 4);
+    let c = four_at(row, x + 8);
+    let d = four_at(row, x + 12);
+    if all(plain(a), plain(b), plain(c), plain(d)) {
+        return put_plain(a, b, c, d, out, at);
+    }
+    if all(
+        same(a, 0x2500),
+        same(b, 0x2500),
+        same(c, 0x2500),
+        same(d, 0x2500),
+    ) {
+        return put_line(out, at);
+    }
+    put_cells(row, x, 16, out, at)
+}
+
+// Writes the first `end` cells of a row from out[at] on, and answers the place after them.
+pub fn write_to(row: &[u32], end: usize, out: &mut [u8], at: usize) -> usize
+    requires { ⌜ (end ≤ length (now row)) × (at + length (bytesTo (now row) end) ≤ length (now out)) ⌝ }
+    requires { ⌜ ((i : ℕ) → i < end → getD (now row) i 0 < 0x200000) ⌝ }
+    ensures { λ r.
+        ⌜ (r ≡ at + length (bytesTo (now (row .entry)) end)) × (now (out .exit) ≡ sets (now (out .entry)) at (bytesTo (now (row .entry)) end)) ⌝ }
+{
+    let mut to = at;
+    let mut x = 0;
+    while 16 <= end - x {
+        to = put_sixteen(row, x, out, to);
+        x += 16;
+    }
+    put_cells(row, x, end - x, out, to)
+}
+
+// Writes a row's text and its 0A from out[at] on, and answers the place after it.
+fn write_row(row: &[u32], out: &mut [u8], at: usize) -> usize
+    requires { ⌜ at + length (rowIn (now row)) ≤ length (now out) ⌝ }
+    requires { ⌜ ((i : ℕ) → i < length (now row) → getD (now row) i 0 < 0x200000) ⌝ }
+    ensures { λ r. ⌜ (r ≡ at + length (rowIn (now (row .entry)))) × (now (out .exit) ≡ sets (now (out .entry)) at (rowIn (now (row .entry)))) ⌝ }
+{
+    let end = write_to(row, trimmed(row), out, at);
+    out[end] = 10;
+    end + 1
+}
+
+// Writes the whole text, which has room, and answers its length.
+pub fn write_text(cells: &[u32], width: usize, height: usize, out: &mut [u8]) -> usize
+    requires { ⌜ (width * height ≤ length (now cells)) × (width * height ≤ 1048576) × (height ≤ 65536) ⌝ }
+    requires { ⌜ length (textOf (cellsOf (now cells) width) width height) ≤ length (now out) ⌝ }
+    requires { ⌜ ((i : ℕ) → i < width * height → getD (now cells) i 0 < 0x200000) ⌝ }
+    ensures { λ r. ⌜ (r ≡ length (textOf (cellsOf (now (cells .entry)) width) width height)) × (now (out .exit) ≡ laid (textOf (cellsOf (now (cells .entry)) width) width height) (now (out .entry))) ⌝ }
+{
+    let mut at = 0;
+    let mut y = 0;
+    while y < height {
+        let first = y * width;
+        let after = first + width;
+        at = write_row(&cells[first..after], out, at);
+        y += 1;
+    }
+    at
+}

@@ -1,0 +1,76 @@
+-- A graph by its parts: entries joined by 0A and four spaces, after a first line that ends in these, are entries with these before each.
+-- With no entry the first line's own 0A and four spaces are what stands alone.
+use mathlib.Core.Path.{_≡_, refl, ap}
+use mathlib.Core.List.{List, [], _∷_, _++_, append-nil}
+use mathlib.Core.Bool.{Bool, true, false}
+use Prim.Native.Nat.{ℕ, _+_, _≤_, _<_, _^_}
+use native.Mathlib.Omega.{arith}
+use lib.Dec.{eqb}
+use lib.ListN.{length, length-append}
+use borrow.Author.Tests.{eq-eqb, ne-eqb}
+use Rattle.rules.specs.Base.{pick, concat, each}
+use Rattle.rules.specs.Utf8.{utf8}
+use Rattle.rules.specs.Lines.{letters, bytes}
+use Rattle.rules.specs.Plan.{Node, planOf}
+use Rattle.rules.specs.Levels.{view}
+use Rattle.rules.specs.Graph.{Form, joined, graph}
+use Rattle.levels.specs.Accepted.{Accepted}
+use Rattle.graphs.specs.Forms.{formOf}
+use Rattle.graphs.specs.Entries.{lead, rowEntries, entriesIn, allEntries, gap}
+use Rattle.graphs.specs.Put.{Put}
+use Rattle.graphs.proofs.Entries.{lead-parts}
+use Rattle.graphs.proofs.Puts.{then}
+use Rattle.graphs.proofs.Bounds.{rows-most, levels-most}
+
+pub gap-some : (at : ℕ) → at ≡ 7 → gap at ≡ 10 ∷ 32 ∷ 32 ∷ 32 ∷ 32 ∷ []
+unfolding gap bytes concat letters utf8 pick
+gap-some at h = rw (eq-eqb at 7 h)
+
+pub gap-none : (at : ℕ) → (at ≡ 7 → ⊥) → gap at ≡ []
+unfolding gap pick
+gap-none at h = rw (ne-eqb at 7 h)
+
+-- the first line, without what stands before an entry
+abbrev pub opening : List ℕ
+opening = 103 ∷ 114 ∷ 97 ∷ 112 ∷ 104 ∷ 32 ∷ 123 ∷ []
+
+-- entries joined
+pub joined-parts : (es : List (List ℕ)) → bytes "graph {\n    " ++ joined es ++ bytes "\n}"
+    ≡ opening ++ concat lead es ++ gap (7 + length (concat lead es)) ++ (10 ∷ 125 ∷ [])
+unfolding concat joined lead bytes letters utf8 pick
+joined-parts [] = rw (gap-some 7 refl)
+joined-parts (e ∷ es) =
+    let E = concat lead (e ∷ es) in
+    let n : 7 + length E ≡ 7 → ⊥ = λ h. absurd (omega (arith, h, length-append (lead e) (concat lead es), ap length (lead-parts e), length-append (10 ∷ 32 ∷ 32 ∷ 32 ∷ 32 ∷ []) e)) in
+    rw (gap-none (7 + length E) n, append-nil (e ++ concat lead es))
+
+-- the rules' graph
+pub graph-parts : (form : Form) (p : List Node)
+    → graph form p ≡ opening ++ concat lead (entriesIn form p (view p .rows)) ++ gap (7 + length (concat lead (entriesIn form p (view p .rows)))) ++ (10 ∷ 125 ∷ [])
+unfolding graph entriesIn rowEntries
+graph-parts form p = joined-parts (entriesIn form p (view p .rows))
+
+gap-most : (b : Bool) → length {A = ℕ} (pick b (10 ∷ 32 ∷ 32 ∷ 32 ∷ 32 ∷ []) []) ≤ 5
+unfolding pick
+gap-most true = omega arith
+gap-most false = omega arith
+
+pub length-graph : (form : Form) (p : List Node)
+    → length (graph form p)
+    ≡ 9 + length (concat lead (entriesIn form p (view p .rows))) + length (gap (7 + length (concat lead (entriesIn form p (view p .rows)))))
+length-graph form p = rw (graph-parts form p) (simp length-append (omega arith))
+
+pub graph-most : {T B : List ℕ} → Accepted T B → (f : Bool) → length (graph (formOf f) (planOf T B)) < 2 ^ 64
+unfolding gap entriesIn rowEntries bytes concat letters utf8 pick
+graph-most {T} {B} a f =
+    let p = planOf T B in
+    let n = 7 + length (concat lead (entriesIn (formOf f) p (view p .rows))) in
+    omega (arith, length-graph (formOf f) p, gap-most (eqb n 7), rows-most a f (view p .rows) (levels-most a))
+
+-- put part by part
+pub graph-put : (form : Form) (p : List Node) {l m n o q : List ℕ} {a b c d : ℕ}
+    → Put opening 0 l m a → Put (concat lead (allEntries form p)) a m n b → Put (gap b) b n o c → Put (10 ∷ 125 ∷ []) c o q d
+    → Put (graph form p) 0 l q d
+graph-put form p {b = b} w x y z =
+    let e : b ≡ 7 + length (concat lead (allEntries form p)) = omega (arith, w .place, x .place) in
+    rw (graph-parts form p, ← e) (then (then (then w x) y) z)

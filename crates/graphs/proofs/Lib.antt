@@ -1,0 +1,11 @@
+pub mod Puts
+pub mod Escapes
+pub mod Names
+pub mod Entries
+pub mod Backward
+pub mod Concats
+pub mod Bounds
+pub mod Joined
+pub mod Rows
+pub mod AllRows
+pub mod Graphs

@@ -1,0 +1,3 @@
+pub mod Put
+pub mod Forms
+pub mod Entries

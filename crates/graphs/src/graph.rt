@@ -1,0 +1,223 @@
+// The graphs: one walk over the plan counts and writes, in both forms.
+use crate::put;
+use rules::Answer;
+ghost use mathlib.Core.Path.{_≡_};
+ghost use Prim.Native.Nat.{_+_, _<_, _≤_, _^_};
+ghost use lib.ListN.{length};
+ghost use Rattle.rules.specs.Base.{pick, concat, laid};
+ghost use Rattle.rules.specs.Plan.{count, depthIn, planOf};
+ghost use Rattle.rules.specs.Graph.{name, bare, fenced, graph as graphOf};
+ghost use Rattle.rules.specs.Answers.{done, inRoom, graphAnswer, graphAfter};
+ghost use Rattle.levels.specs.Accepted.{Accepted};
+ghost use Rattle.graphs.specs.Put.{Put};
+ghost use Rattle.graphs.specs.Forms.{formOf};
+ghost use Rattle.graphs.specs.Entries.{lead, spotIn, edgeIn, edgesIn, nodeIn, backward, rowEntries, allEntries, gap, Ready};
+
+// Puts the name of node k.
+fn name_of(
+    out: &mut [u8],
+    at: usize,
+    table: &[u32],
+    column: &[u32; 256],
+    k: usize,
+    fenced: bool,
+) -> usize
+    requires { ⌜ Ready (now table) (now column) ⌝ }
+    requires { ⌜ (k < count (now table)) × (at + length (name (formOf fenced) (spotIn (now table) k)) < 2 ^ 64) ⌝ }
+    ensures { λ r. ⌜ Put (name (formOf fenced) (spotIn (now (table .entry)) k)) at (now (out .entry)) (now (out .exit)) r ⌝ }
+{
+    put::name(out, at, table[3 * k], column[k], fenced)
+}
+
+// Puts the edge from node k to node m, with what stands before an entry.
+fn edge(
+    out: &mut [u8],
+    at: usize,
+    table: &[u32],
+    column: &[u32; 256],
+    k: usize,
+    m: usize,
+    fenced: bool,
+) -> usize
+    requires { ⌜ Ready (now table) (now column) ⌝ }
+    requires { ⌜ (k < count (now table)) × (m < count (now table)) × (at + length (edgeIn (formOf fenced) (now table) k m) < 2 ^ 64) ⌝ }
+    ensures { λ r. ⌜ Put (edgeIn (formOf fenced) (now (table .entry)) k m) at (now (out .entry)) (now (out .exit)) r ⌝ }
+{
+    let a = put::bytes(out, at, b"\n    ");
+    let b = name_of(out, a, table, column, k, fenced);
+    let c = put::bytes(out, b, b" -- ");
+    name_of(out, c, table, column, m, fenced)
+}
+
+// Puts the edges of node k, last child first; its children lie before node `end`.
+fn edges(
+    out: &mut [u8],
+    at: usize,
+    table: &[u32],
+    column: &[u32; 256],
+    k: usize,
+    end: usize,
+    fenced: bool,
+) -> usize
+    requires { ⌜ Ready (now table) (now column) ⌝ }
+    requires { ⌜ (k < end) × (end ≤ count (now table)) ⌝ }
+    requires { ⌜ at + length (edgesIn (formOf fenced) (now table) k (backward (now table) k end (depthIn (now table) k + 1))) < 2 ^ 64 ⌝ }
+    ensures { λ r. ⌜ Put (edgesIn (formOf fenced) (now (table .entry)) k (backward (now (table .entry)) k end (depthIn (now (table .entry)) k + 1)))
+        at (now (out .entry)) (now (out .exit)) r ⌝ }
+{
+    let depth = table[3 * k] + 1;
+    let mut to = at;
+    let mut m = levels::previous_cell(table, k, end, depth);
+    while k < m {
+        to = edge(out, to, table, column, k, m, fenced);
+        m = levels::previous_cell(table, k, m, depth);
+    }
+    to
+}
+
+// Puts the entry of node k, with what stands before an entry.
+fn node(
+    out: &mut [u8],
+    at: usize,
+    table: &[u32],
+    titles: &[u8],
+    column: &[u32; 256],
+    k: usize,
+    fenced: bool,
+) -> usize
+    requires { ⌜ Accepted (now table) (now titles) × Ready (now table) (now column) ⌝ }
+    requires { ⌜ (k < count (now table)) × (at + length (nodeIn (formOf fenced) (planOf (now table) (now titles)) k) < 2 ^ 64) ⌝ }
+    ensures { λ r. ⌜ Put (nodeIn (formOf fenced) (planOf (now (table .entry)) (now (titles .entry))) k) at (now (out .entry)) (now (out .exit)) r ⌝ }
+{
+    let a = put::bytes(out, at, b"\n    ");
+    let b = name_of(out, a, table, column, k, fenced);
+    let c = put::bytes(out, b, b" [label=\"");
+    let d = put::shown(out, c, levels::title(table, k, titles), fenced);
+    put::bytes(out, d, b"\", ordering=\"out\"]")
+}
+
+// Puts the entries of a row.
+fn row(
+    out: &mut [u8],
+    at: usize,
+    table: &[u32],
+    nodes: usize,
+    titles: &[u8],
+    column: &[u32; 256],
+    depth: u32,
+    fenced: bool,
+) -> usize
+    requires { ⌜ Accepted (now table) (now titles) × Ready (now table) (now column) × (nodes ≡ count (now table)) ⌝ }
+    requires { ⌜ at + length (concat lead (rowEntries (formOf fenced) (planOf (now table) (now titles)) depth)) < 2 ^ 64 ⌝ }
+    ensures { λ r. ⌜ Put (concat lead (rowEntries (formOf fenced) (planOf (now (table .entry)) (now (titles .entry))) depth))
+        at (now (out .entry)) (now (out .exit)) r ⌝ }
+{
+    let mut to = at;
+    let mut k = levels::next_cell(table, nodes, 0, depth);
+    while k < nodes {
+        let end = levels::next_cell(table, nodes, k + 1, depth);
+        to = node(out, to, table, titles, column, k, fenced);
+        to = edges(out, to, table, column, k, end, fenced);
+        k = end;
+    }
+    to
+}
+
+// Puts the entries of all rows.
+fn entries(
+    out: &mut [u8],
+    at: usize,
+    table: &[u32],
+    nodes: usize,
+    titles: &[u8],
+    column: &[u32; 256],
+    fenced: bool,
+) -> usize
+    requires { ⌜ Accepted (now table) (now titles) × Ready (now table) (now column) × (nodes ≡ count (now table)) ⌝ }
+    requires { ⌜ at + length (concat lead (allEntries (formOf fenced) (planOf (now table) (now titles)))) < 2 ^ 64 ⌝ }
+    ensures { λ r. ⌜ Put (concat lead (allEntries (formOf fenced) (planOf (now (table .entry)) (now (titles .entry)))))
+        at (now (out .entry)) (now (out .exit)) r ⌝ }
+{
+    let rows = levels::rows(table, nodes);
+    let mut to = at;
+    let mut i = 0;
+    while i < rows {
+        to = row(out, to, table, nodes, titles, column, i, fenced);
+        i += 1;
+    }
+    to
+}
+
+// Puts what stands for no entry.
+fn no_entry(out: &mut [u8], at: usize) -> usize
+    requires { ⌜ at + length (gap at) < 2 ^ 64 ⌝ }
+    ensures { λ r. ⌜ Put (gap at) at (now (out .entry)) (now (out .exit)) r ⌝ }
+{
+    if at == 7 {
+        return put::bytes(out, at, b"\n    ");
+    }
+    at
+}
+
+// Puts the whole graph, as far as there is room.
+fn whole(
+    out: &mut [u8],
+    table: &[u32],
+    nodes: usize,
+    titles: &[u8],
+    column: &[u32; 256],
+    fenced: bool,
+) -> usize
+    requires { ⌜ Accepted (now table) (now titles) × Ready (now table) (now column) × (nodes ≡ count (now table)) ⌝ }
+    ensures { λ r. ⌜ Put (graphOf (formOf fenced) (planOf (now (table .entry)) (now (titles .entry)))) 0 (now (out .entry)) (now (out .exit)) r ⌝ }
+{
+    let a = put::bytes(out, 0, b"graph {");
+    let b = entries(out, a, table, nodes, titles, column, fenced);
+    let c = no_entry(out, b);
+    put::bytes(out, c, b"\n}")
+}
+
+// Counts the graph of an accepted table, and puts it where there is room for all of it.
+fn fill(table: &[u32], titles: &[u8], column: &[u32; 256], out: &mut [u8], fenced: bool) -> Answer
+    requires { ⌜ Accepted (now table) (now titles) × Ready (now table) (now column) ⌝ }
+    ensures { λ r. ⌜ (r ≡ inRoom (length (now (out .entry))) (length (graphOf (formOf fenced) (planOf (now (table .entry)) (now (titles .entry))))))
+        × (now (out .exit) ≡ pick (done r) (laid (graphOf (formOf fenced) (planOf (now (table .entry)) (now (titles .entry)))) (now (out .entry))) (now (out .entry))) ⌝ }
+{
+    let nodes = table.len() / 3;
+    let need = whole(&mut out[..0], table, nodes, titles, column, fenced);
+    if out.len() < need {
+        return Answer::Room(need);
+    }
+    whole(out, table, nodes, titles, column, fenced);
+    Answer::Done(need)
+}
+
+// The graph of a plan in either form.
+fn graph(table: &[u32], titles: &[u8], out: &mut [u8], fenced: bool) -> Answer
+    ensures { λ r. ⌜ (r ≡ graphAnswer (formOf fenced) (now (table .entry)) (now (titles .entry)) (length (now (out .entry))))
+        × (now (out .exit) ≡ graphAfter (formOf fenced) (now (table .entry)) (now (titles .entry)) (now (out .entry))) ⌝ }
+{
+    let refusal = levels::first_refusal(table, titles, false);
+    if rules::done(refusal) {
+        let mut column = [0u32; 256];
+        levels::columns(table, table.len() / 3, &mut column);
+        return fill(table, titles, &column, out, fenced);
+    }
+    refusal
+}
+
+// 000's graph.
+pub fn tree_fmt_dot(table: &[u32], titles: &[u8], out: &mut [u8]) -> Answer
+    ensures { λ r. ⌜ (r ≡ graphAnswer bare (now (table .entry)) (now (titles .entry)) (length (now (out .entry))))
+        × (now (out .exit) ≡ graphAfter bare (now (table .entry)) (now (titles .entry)) (now (out .entry))) ⌝ }
+{
+    graph(table, titles, out, false)
+}
+
+// The fenced graph.
+pub fn tree_fmt_fenced(table: &[u32], titles: &[u8], out: &mut [u8]) -> Answer
+    ensures { λ r. ⌜ (r ≡ graphAnswer fenced (now (table .entry)) (now (titles .entry)) (length (now (out .entry))))
+        × (now (out .exit) ≡ graphAfter fenced (now (table .entry)) (now (titles .entry)) (now (out .entry))) ⌝ }
+{
+    graph(table, titles, out, true)
+}

@@ -1,0 +1,6 @@
+// The graphs: the crate's own form and the fenced one.
+mod graph;
+mod put;
+
+pub use graph::tree_fmt_dot;
+pub use graph::tree_fmt_fenced;

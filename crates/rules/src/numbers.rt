@@ -1,0 +1,50 @@
+// An answer's numbers.
+use crate::Answer;
+ghost use mathlib.Core.Path.{_≡_};
+ghost use Rattle.rules.specs.Numbers.{number as numberOf, second as secondOf};
+ghost use Rattle.rules.specs.Answers.{done as isDone};
+
+// The number of an answer.
+pub fn number(a: Answer) -> u32
+    ensures { λ r. ⌜ r ≡ numberOf a ⌝ }
+{
+    match a {
+        Answer::Done(_) => 0,
+        Answer::Ragged => 1,
+        Answer::Many => 2,
+        Answer::None => 3,
+        Answer::Depth(_) => 4,
+        Answer::Title(_) => 5,
+        Answer::Utf8(_) => 6,
+        Answer::Large => 7,
+        Answer::Canvas(_) => 8,
+        Answer::Room(_) => 9,
+        Answer::Trailer => 11,
+    }
+}
+
+// Its second number.
+pub fn second(a: Answer) -> usize
+    ensures { λ r. ⌜ r ≡ secondOf a ⌝ }
+{
+    match a {
+        Answer::Done(written) => written,
+        Answer::Ragged => 0,
+        Answer::Many => 0,
+        Answer::None => 0,
+        Answer::Depth(node) => node,
+        Answer::Title(node) => node,
+        Answer::Utf8(node) => node,
+        Answer::Large => 0,
+        Answer::Canvas(needed) => needed,
+        Answer::Room(needed) => needed,
+        Answer::Trailer => 0,
+    }
+}
+
+// Number 0, done.
+pub fn done(a: Answer) -> bool
+    ensures { λ r. ⌜ r ≡ isDone a ⌝ }
+{
+    number(a) == 0
+}
