@@ -9,10 +9,11 @@ use lib.Seq.{sets}
 use Rattle.rules.specs.Base.{each, pick}
 use Rattle.rules.specs.Utf8.{utf8}
 use Rattle.rules.proofs.Chars.{utf8-one}
-use Rattle.rules.proofs.Text.{each-next, each-room, each-rises, each-add}
+use Rattle.rules.proofs.Text.{each-next, each-room, each-rises}
 use Rattle.canvas_text.specs.Emit.{rowOf, fourAt, Same, Plain, cellsIn, lineBytes, bytesTo, bytesIn}
 use Rattle.canvas_text.specs.declared.emit.Four.{Four}
 use Rattle.canvas_text.proofs.EmitRow.{stored}
+use Rattle.rules.proofs.Keeps.{each-add}
 
 -- n cells from x on, and the next
 module _ (row : List ℕ) (x n : ℕ) where

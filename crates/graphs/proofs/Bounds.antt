@@ -22,8 +22,9 @@ use Rattle.levels.proofs.Accepted.{depth-small, title-short, title-length}
 use Rattle.graphs.specs.Forms.{formOf}
 use Rattle.graphs.specs.Entries.{lead}
 use Rattle.graphs.proofs.Names.{length-name}
-use Rattle.graphs.proofs.Entries.{column-most, length-node, length-edge}
+use Rattle.graphs.proofs.Entries.{length-node, length-edge}
 use Rattle.graphs.proofs.Concats.{concat-most, concat-map, concat-concat, concat-each, each-most, length-keep, mem-reverse, mem-each}
+use Rattle.levels.proofs.Runs.{column-most}
 
 -- a byte of a title as two at most, one between a name's numbers at most
 two-most : (b c : Bool) (x : ℕ) → length (pick b (92 ∷ 34 ∷ []) (pick c (92 ∷ 110 ∷ []) (x ∷ []))) ≤ 2

@@ -18,6 +18,8 @@ use Rattle.levels.specs.Between.{cellOf}
 use Rattle.rules.proofs.Lists.{depth-plan}
 use Rattle.graphs.specs.Entries.{lead, spotIn, nodeIn, Ready}
 use Rattle.graphs.specs.Forms.{spot}
+use Rattle.levels.proofs.Empties.{one-at-most}
+use Rattle.levels.proofs.Runs.{column-most}
 
 pub lead-parts : (e : List ℕ) → lead e ≡ (10 ∷ 32 ∷ 32 ∷ 32 ∷ 32 ∷ []) ++ e
 unfolding lead bytes concat letters utf8 pick
@@ -60,17 +62,6 @@ node-read form T B k h = node-parts form (cellOf (planOf T B) k) ∙ rw (name-pl
 pub length-read : (form : Form) (T B : List ℕ) (k : ℕ) → k < count T
     → length (nodeIn form (planOf T B) k) ≡ 32 + length (name form (spotIn T k)) + length (concat (form .written) (titleIn T B k))
 length-read form T B k h = length-node form (cellOf (planOf T B) k) ∙ rw (name-place form T B k h, title-read T B k h)
-
--- a column is at most the number of nodes before
-one-at-most : (b : Bool) → pick b 1 0 ≤ 1
-unfolding pick
-one-at-most true = omega arith
-one-at-most false = omega arith
-
-pub column-most : (p : List Node) (k : ℕ) → columnAt p k ≤ k
-unfolding columnAt total leaf
-column-most p zero = omega arith
-column-most p (suc k) = omega (arith, column-most p k, one-at-most (leb (depthAt p (k + 1)) (depthAt p k)))
 
 -- the row and the column of a node have few digits
 pub row-small : {T C : List ℕ} → Ready T C → (k : ℕ) → k < count T → getD T (3 * k) 0 < 256

@@ -20,7 +20,7 @@ use Rattle.levels.specs.Between.{cellOf, cellsBetween}
 use Rattle.levels.proofs.Tests.{and-true}
 use Rattle.levels.proofs.Walks.{next-from, next-most, next-holds, next-before}
 use Rattle.levels.proofs.Between.{between-nil, between-snoc, row-append, row-nil, row-view, row-split, row-none, row-first, cell-row}
-use Rattle.levels.proofs.Cells.{children-between}
+use Rattle.levels.proofs.Cells.{children-between, cell-depth}
 use Rattle.graphs.specs.Entries.{lead, edgeIn, edgesIn, nodeIn, backward, rowEntries}
 use Rattle.graphs.proofs.Entries.{name-place}
 use Rattle.graphs.proofs.Backward.{back-end, back-here, back-past}
@@ -86,10 +86,6 @@ module _ {T B : List ℕ} (a : Accepted T B) (form : Form) where
             rw s (edge-one k e i (inRow (cellsBetween (planOf T B) (k + 1) e) i) h g (cellIn T i e) refl l (run-edges k i e h (omega arith))))
       ]
 
-  cell-depth : (i k : ℕ) → cellIn T i k ≡ true → depthIn T k ≡ i
-  unfolding cellIn
-  cell-depth i k c = eqb-true (depthIn T k) i (and-true (eqb (depthIn T k) i) (not (eqb (sizeIn T k) 0)) c .0)
-
   -- the entries of a cell: its node's, and the edges that the walk back from the row's next cell meets
   cell-entries : (i k : ℕ) → k < count T → cellIn T i k ≡ true
       → concat lead (entries form (view (planOf T B)) (cellOf (planOf T B) k))
@@ -98,12 +94,12 @@ module _ {T B : List ℕ} (a : Accepted T B) (form : Form) where
   cell-entries i k h c =
       let p = planOf T B in
       let e = nextCell T (count T) (k + 1) i in
-      let d : depthAt p k ≡ i = depth-plan T B k h ∙ cell-depth i k c in
+      let d : depthAt p k ≡ i = depth-plan T B k h ∙ cell-depth a i k c in
       ap (λ cs. lead (node form (cellOf p k)) ++ concat lead (map (edge form (cellOf p k)) (reverse cs)))
       (ap (λ x. children (view p) x (columnAt p k)) d ∙ children-between a i k h c)
       ∙ ap (λ l. lead (node form (cellOf p k)) ++ l)
       (run-edges k (i + 1) e h (next-most T i (count T) (k + 1) (omega arith))
-      ∙ ap (λ x. edgesIn form T k (backward T k e (x + 1))) (sym (cell-depth i k c)))
+      ∙ ap (λ x. edgesIn form T k (backward T k e (x + 1))) (sym (cell-depth a i k c)))
 
   -- a cell of the row, and those from its next cell on
   row-step : (i k : ℕ) → k < count T → cellIn T i k ≡ true

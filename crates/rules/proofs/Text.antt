@@ -44,12 +44,6 @@ pub each-next : {A : Type 0} (f : ℕ → List A) (n : ℕ) → each f (n + 1) �
 unfolding each
 each-next f n = rw (add-one n)
 
--- the first m, and then n more
-pub each-add : {A : Type 0} (f : ℕ → List A) (m n : ℕ) → each f (m + n) ≡ each f m ++ each (λ k. f (m + k)) n
-unfolding each
-each-add f m zero = rw (add-zero m) (sym (append-nil (each f m)))
-each-add f m (suc n) = rw (add-suc m n, each-add f m n) (append-assoc (each f m) (each (λ k. f (m + k)) n) (f (m + n)))
-
 -- where all have room, so has the next
 pub each-room : {A : Type 0} (f : ℕ → List A) (n e : ℕ) → n < e → length (each f n) + length (f n) ≤ length (each f e)
 each-room f n e h =
