@@ -1,0 +1,4 @@
+pub mod Split
+pub mod Counts
+pub mod Pictures
+pub mod Spaces
