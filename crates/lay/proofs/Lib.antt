@@ -2,3 +2,4 @@ pub mod Split
 pub mod Counts
 pub mod Pictures
 pub mod Spaces
+pub mod Laying

@@ -4,15 +4,17 @@ use mathlib.Core.Path.{_≡_, refl, ap, sym, _∙_}
 use mathlib.Core.List.{List, [], _∷_, _++_, map}
 use mathlib.Core.Bool.{true}
 use Prim.Native.Nat.{ℕ, _-_, _≤_, max}
+use native.Mathlib.Omega.{arith}
 use lib.Dec.{leb, eqb}
 use lib.ListN.{length, take, getD, replicate, length-map}
 use borrow.Author.Tests.{leb-true, eqb-true}
 use Rattle.rules.specs.Base.{concat, greatest}
 use Rattle.rules.specs.Utf8.{valid, points}
 use Rattle.rules.specs.Lines.{linesOf}
-use Rattle.rules.specs.Reader.{ended, pictureLines, pictureWidth, padded}
+use Rattle.rules.specs.Reader.{ended, pictureLines, pictureWidth, pictureArea, padded}
 use Rattle.rules.proofs.CharsBack.{both}
 use Rattle.marks.proofs.Text.{concat-map}
+use Rattle.marks.proofs.Cells.{padded-length}
 use Rattle.marks.proofs.Compared.{take-last, valid-front}
 use Rattle.lay.specs.Rows.{codes, rowOf, rows}
 use Rattle.lay.proofs.Split.{lines-points}
@@ -52,3 +54,14 @@ module _ (P : List ℕ) (e : ended P ≡ true) where
   padded-rows v =
       ap (concat (λ l. l ++ replicate (pictureWidth P - length l) 0x20)) (lines-are v)
       ∙ concat-map (λ l. l ++ replicate (pictureWidth P - length l) 0x20) points (linesOf (take (length P - 1) P))
+
+  module _ (v : valid P ≡ true) (bytes : List ℕ) (i : bytes ≡ take (length P - 1) P) (w : ℕ) (d : w ≡ pictureWidth P) where
+    pub padded-lines : rows w (linesOf bytes) ≡ padded P
+    padded-lines = rw (i, d) (sym (padded-rows v))
+
+    pub ready : (n : ℕ) → pictureArea P ≤ n → (valid bytes ≡ true) × (greatest codes (linesOf bytes) ≤ w) × (length (rows w (linesOf bytes)) ≤ n)
+    ready n h = (
+      ap valid i ∙ body-valid v,
+      omega (arith, ap (λ (b : List ℕ). greatest codes (linesOf b)) i, width-found v),
+      omega (arith, ap length padded-lines, padded-length P),
+    )

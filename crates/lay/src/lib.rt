@@ -1,7 +1,9 @@
 // The reader of pictures' first step: a picture's size, and its cells.
+mod cells;
 mod ends;
 mod size;
 
+pub use cells::lay;
 pub use ends::ended;
 pub use ends::spaced;
 pub use size::area;
