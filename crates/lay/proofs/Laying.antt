@@ -1,18 +1,17 @@
 -- Rows laid one after another: each row is as wide as all, so the first `from` cells of all rows and the next row are the first `from + w`.
 -- A row is lent, comes back with its line, and the cells behind it are those that were there.
-use mathlib.Core.Path.{_≡_, refl, ap, sym, _∙_}
+use mathlib.Core.Path.{_≡_, ap, sym, _∙_}
 use mathlib.Core.Bool.{true}
 use mathlib.Core.List.{List, [], _∷_, _++_, append-assoc, append-nil}
-use Prim.Native.Nat.{ℕ, suc, _+_, _-_, _≤_, _<_, max}
-use native.Mathlib.Nat.{zero-add, add-sub-cancel-left}
+use Prim.Native.Nat.{ℕ, _+_, _-_, _≤_, _<_, max}
 use native.Mathlib.Omega.{arith}
-use lib.ListN.{length, take, drop, getD, replicate, length-append, length-take, length-drop, drop-of-length-le, length-replicate, replicate-append-replicate}
+use lib.ListN.{length, take, drop, getD, replicate, length-append, length-drop, drop-of-length-le, length-replicate, replicate-append-replicate}
 use lib.Seq.{sets, sets-eq, take-at, drop-at, take-add, drop-drop, drop-cons, length-take-le}
 use borrow.Rule.Slice.PartMut.{putMid}
 use Rattle.rules.specs.Base.{concat, greatest, laid}
 use Rattle.rules.specs.Utf8.{valid, points}
 use Rattle.rules.specs.Lines.{linesOf}
-use Rattle.rules.proofs.Lines.{Here, lent-line, linesOf-some}
+use Rattle.rules.proofs.Lines.{lent-line, linesOf-some}
 use Rattle.rules.proofs.LinesValid.{here-valid}
 use Rattle.marks.proofs.Cells.{pad-length}
 use Rattle.lay.specs.Rows.{codes, rowOf, rows}

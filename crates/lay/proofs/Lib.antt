@@ -3,3 +3,4 @@ pub mod Counts
 pub mod Pictures
 pub mod Spaces
 pub mod Laying
+pub mod Unspaced

@@ -32,11 +32,12 @@ module _ (P : List ℕ) (e : ended P ≡ true) where
   pub ended-some : 1 ≤ length P
   ended-some = leb-true 1 (length P) (tests .0)
 
+  pub body-ended : take (length P - 1) P ++ (10 ∷ []) ≡ P
+  body-ended =
+      ap (λ (b : ℕ). take (length P - 1) P ++ (b ∷ [])) (sym (eqb-true (getD P (length P - 1) 0) 10 (tests .1))) ∙ take-last P ended-some
+
   pub body-valid : valid P ≡ true → valid (take (length P - 1) P) ≡ true
-  body-valid v =
-      let q = eqb-true (getD P (length P - 1) 0) 10 (tests .1) in
-      valid-front (take (length P - 1) P)
-      (ap (λ (b : ℕ). valid (take (length P - 1) P ++ (b ∷ []))) (sym q) ∙ ap valid (take-last P ended-some) ∙ v)
+  body-valid v = valid-front (take (length P - 1) P) (ap valid body-ended ∙ v)
 
   pub lines-are : valid P ≡ true → pictureLines P ≡ map points (linesOf (take (length P - 1) P))
   unfolding pictureLines

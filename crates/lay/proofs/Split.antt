@@ -1,15 +1,14 @@
 -- The code points of valid UTF-8 split at 10 are the lines of its bytes, each read: a code point other than 10 has no byte 0A, and 10 is that byte.
 use mathlib.Core.Path.{_≡_, refl, ap, sym, _∙_}
 use mathlib.Core.List.{List, [], _∷_, _++_, map, List·Memᴰ, List·Memᴰ·head, List·Memᴰ·tail}
-use mathlib.Core.Bool.{Bool, true, false}
-use Prim.Native.Nat.{ℕ, suc, zero, _+_, _-_, _≤_, _<_, max}
+use mathlib.Core.Bool.{true}
+use Prim.Native.Nat.{ℕ, _+_, _-_, _≤_, _<_}
 use native.Mathlib.Nat.{not-suc-le-zero}
 use native.Mathlib.Decide.{ℕ-discrete}
 use native.Mathlib.Omega.{arith}
-use lib.Dec.{eqb}
-use lib.ListN.{length, take, drop, getD}
-use borrow.Author.Tests.{eq-eqb, ne-eqb}
-use Rattle.rules.specs.Base.{pick, concat, greatest}
+use lib.ListN.{length}
+use borrow.Author.Tests.{ne-eqb}
+use Rattle.rules.specs.Base.{pick, concat}
 use Rattle.rules.specs.Utf8.{valid, points, utf8}
 use Rattle.rules.specs.Lines.{linesOf, onto}
 use Rattle.rules.proofs.Lines.{linesOf-some}

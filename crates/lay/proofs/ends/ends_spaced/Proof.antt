@@ -1,6 +1,5 @@
 -- The two tests, one after the other.
 use borrow.Author.Tests.{eq-eqb, ne-eqb}
-use borrow.Author.Needs.{needs}
 use Rattle.lay.proofs.ends.ends_spaced.Statement.{statement}
 use Rattle.lay.proofs.ends.ends_spaced.Tie as tie
 

@@ -1,9 +1,7 @@
 -- All bytes hold such an end if those from k on do, after the byte before them.
-use mathlib.Core.Path.{_≡_, refl, ap, sym, _∙_}
-use mathlib.Core.Bool.{true, false, _||_}
+use mathlib.Core.Path.{_≡_, refl, sym, _∙_}
 use Prim.Native.Nat.{_≤_, _-_}
-use native.Mathlib.Omega.{arith}
-use lib.ListN.{length, drop, getD}
+use lib.ListN.{length, drop}
 use Rattle.lay.specs.Spaced.{spaced, spacedAfter}
 use Rattle.lay.proofs.Spaces.{spaced-step, spaced-end}
 use borrow.Author.Needs.{needs}

@@ -1,8 +1,7 @@
 -- The lines of the bytes are the picture's.
-use mathlib.Core.Path.{_≡_, ap, _∙_}
+use mathlib.Core.Path.{ap, _∙_}
 use mathlib.Core.List.{List}
 use Prim.Native.Nat.{ℕ}
-use native.Mathlib.Omega.{arith}
 use lib.ListN.{length}
 use Rattle.rules.specs.Lines.{linesOf}
 use Rattle.lay.proofs.Pictures.{ended-some, lines-counted}

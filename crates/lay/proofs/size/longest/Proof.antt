@@ -1,12 +1,11 @@
 -- The longest line of the bytes is the picture's.
-use mathlib.Core.Path.{_≡_, ap, _∙_}
+use mathlib.Core.Path.{ap, _∙_}
 use mathlib.Core.List.{List}
 use Prim.Native.Nat.{ℕ}
 use Rattle.rules.specs.Base.{greatest}
 use Rattle.rules.specs.Lines.{linesOf}
 use Rattle.lay.specs.Rows.{codes}
 use Rattle.lay.proofs.Pictures.{ended-some, body-valid, width-found}
-use borrow.Author.Needs.{needs}
 use Rattle.lay.proofs.size.longest.Statement.{statement}
 use Rattle.lay.proofs.size.longest.Tie as tie
 
