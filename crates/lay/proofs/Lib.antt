@@ -4,3 +4,4 @@ pub mod Pictures
 pub mod Spaces
 pub mod Laying
 pub mod Unspaced
+pub mod Starts
