@@ -5,3 +5,5 @@ pub mod Spaces
 pub mod Laying
 pub mod Unspaced
 pub mod Starts
+pub mod Refusals
+pub mod Seen

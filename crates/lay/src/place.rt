@@ -1,7 +1,6 @@
 // The reader's first refusals, and a picture that meets none of them on the canvas.
 ghost use mathlib.Core.Path.{_≡_};
 ghost use mathlib.Core.Bool.{true};
-ghost use lib.ListN.{length};
 ghost use Rattle.rules.specs.Utf8.{valid};
 ghost use Rattle.rules.specs.Reader as rule;
 ghost use Rattle.lay.specs.Started.{Started};
