@@ -1,3 +1,4 @@
 pub mod Next
 pub mod Seen
 pub mod Groups
+pub mod Most

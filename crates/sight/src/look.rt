@@ -6,7 +6,7 @@ ghost use Rattle.rules.proofs.Candidate.{next, marked};
 ghost use Rattle.sight.specs.Seen.{seen};
 
 // No mark.
-const SPACE: u32 = 0x20;
+pub const SPACE: u32 = 0x20;
 
 // The mark at (x, y), a space outside.
 pub fn at(cells: &[u32], width: u32, height: u32, x: u32, y: u32) -> u32
