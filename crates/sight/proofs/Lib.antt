@@ -5,3 +5,4 @@ pub mod Most
 pub mod Split
 pub mod Offsets
 pub mod Outsides
+pub mod Trims

@@ -11,10 +11,10 @@ use borrow.Author.Tests.{ne-eqb}
 use Rattle.rules.specs.Base.{pick, greatest, concat, first}
 use Rattle.rules.specs.Levels.{Cell}
 use Rattle.rules.specs.Measures.{lineCount}
-use Rattle.rules.specs.Drawing.{Marks}
+use Rattle.rules.specs.Drawing.{Marks, boxes}
 use Rattle.rules.proofs.Candidate.{from, next, marked, joined, lineAt, Outside, linesAt, foundAt, rowFrom, bandOf}
 use Rattle.marks.proofs.Text.{length-from}
-use Rattle.sight.specs.Seen.{boxLines, cellLines, mostLines, bandSeen}
+use Rattle.sight.specs.Seen.{boxLines, cellLines, mostLines, bandSeen, leftSide, rightSide}
 use Rattle.sight.proofs.Split.{Open, joined-split, line-open, map-all}
 
 greatest-append : {A : Type 0} (f : A → ℕ) (l m : List A) → greatest f (l ++ m) ≡ max (greatest f l) (greatest f m)
@@ -90,3 +90,9 @@ module _ (marks : Marks) (g : ℕ → ℕ → ℕ) (w : ℕ) where
         let most : mostLines g band (cy i) cx (o .nc) ≡ mostLines g band (o .cy i) (o .cx) (o .nc) = unfold mostLines in
         rw (b i (omega arith)) (greatest-same (λ j. cellLines g band (o .cy i) (cx j)) (λ j. cellLines g band (o .cy i) (o .cx j)) 0 (o .nc) (λ j l m. rw (a j (omega arith)))) in
         rw before (omega (arith, most, row-count o band i))
+
+-- the lines of a box, by its sides
+pub lines-seen : (g : ℕ → ℕ → ℕ) (w cx cy y : ℕ)
+    → linesAt boxes g w cx cy y ≡ map (λ r. lineAt g (leftSide g cx y + 2) (y + 1 + r) (rightSide g w cx y - leftSide g cx y - 3)) (from 0 (boxLines g (cx - 2) cy y))
+unfolding linesAt leftSide rightSide boxLines
+lines-seen g w cx cy y = refl

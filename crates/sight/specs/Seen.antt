@@ -4,7 +4,8 @@ use mathlib.Core.Bool.{_&&_, _||_}
 use Prim.Native.Nat.{ℕ, zero, suc, _+_, _*_, _-_}
 use lib.Dec.{ltb, eqb}
 use lib.ListN.{getD}
-use Rattle.rules.specs.Base.{pick, greatest}
+use Rattle.rules.specs.Base.{pick, greatest, first}
+use Rattle.rules.specs.Drawing.{boxes}
 use Rattle.rules.proofs.Candidate.{from, next, marked}
 
 -- the mark at (x, y) of a picture of width w and height h, row by row from the first cell on; a space outside
@@ -31,3 +32,11 @@ mostLines g band cy cx columns = greatest (λ j. cellLines g band cy (cx j)) (fr
 unfoldable pub bandSeen : (ℕ → ℕ → ℕ) → (ℕ → ℕ) → (ℕ → ℕ) → ℕ → ℕ → ℕ
 bandSeen g cy cx columns zero = 3
 bandSeen g cy cx columns (suc i) = bandSeen g cy cx columns i + (mostLines g (bandSeen g cy cx columns i) (cy i) cx columns + 2) + 3
+
+-- the left side of the box with the top border y of the column with the centre cx: the first top left corner from cx - 2 to the left
+unfoldable pub leftSide : (ℕ → ℕ → ℕ) → ℕ → ℕ → ℕ
+leftSide g cx y = cx - 2 - first (λ q. eqb (g (cx - 2 - q) y) (boxes .╭)) (cx - 2)
+
+-- and its right side, the first top right corner from cx + 1 on, w being the picture's width
+unfoldable pub rightSide : (ℕ → ℕ → ℕ) → ℕ → ℕ → ℕ → ℕ
+rightSide g w cx y = next (λ x. eqb (g x y) (boxes .╮)) (cx + 1) w

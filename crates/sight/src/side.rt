@@ -43,7 +43,7 @@ pub fn right_corner(cells: &[u32], width: u32, height: u32, from: u32, y: u32, c
 }
 
 // The lines of a box with the top border `top` in a row with the centre cy, seen at x: its bottom says whether they are odd.
-fn box_lines(cells: &[u32], width: u32, height: u32, x: u32, cy: u32, top: u32) -> u32
+pub fn box_lines(cells: &[u32], width: u32, height: u32, x: u32, cy: u32, top: u32) -> u32
     requires { ⌜ (width * height ≤ length (now cells)) × (top < cy) × (cy ≤ 1048576) ⌝ }
     ensures { λ r. ⌜ r ≡ boxLines (seen (now (cells .entry)) width height) x cy top ⌝ }
 {
