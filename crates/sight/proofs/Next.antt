@@ -1,0 +1,60 @@
+-- The next place along a line that a test holds of, one place at a time: each law is one step of `first`.
+use mathlib.Core.Path.{_≡_, ap, _∙_}
+use mathlib.Core.Bool.{Bool, true, false}
+use Prim.Native.Nat.{ℕ, zero, suc, _+_, _-_, _≤_, _<_}
+use native.Mathlib.Nat.{add-zero, sub-zero}
+use native.Mathlib.Omega.{arith}
+use Rattle.rules.specs.Base.{first}
+use Rattle.rules.proofs.Firsts.{first-most, first-here, first-past, first-same}
+use Rattle.rules.proofs.Candidate.{next}
+
+module _ (t : ℕ → Bool) where
+  -- no place is left
+  pub next-end : (x e : ℕ) → e ≤ x → next t x e ≡ x
+  unfolding next first
+  next-end x e h = let z : e - x ≡ 0 = omega arith in rw (z, add-zero x)
+
+  -- the test holds here
+  pub next-here : (x e : ℕ) → x < e → t x ≡ true → next t x e ≡ x
+  unfolding next
+  next-here x e h c =
+      let s : e - x ≡ suc (e - suc x) = omega arith in
+      rw (s, first-here (λ q. t (x + q)) (e - suc x) (rw (add-zero x) c), add-zero x)
+
+  -- or it does not
+  pub next-past : (x e : ℕ) → x < e → t x ≡ false → next t x e ≡ next t (x + 1) e
+  unfolding next
+  next-past x e h c =
+      let s : e - x ≡ suc (e - (x + 1)) = omega arith in
+      let same = first-same (λ q. t (x + suc q)) (λ q. t (x + 1 + q)) (e - (x + 1)) (λ q l. ap t (omega arith)) in
+      let past = first-past (λ q. t (x + q)) (e - (x + 1)) (rw (add-zero x) c) in
+      rw s (omega (arith, same, past))
+
+  -- it is found from x on, and not beyond the end
+  pub next-from : (x e : ℕ) → x ≤ next t x e
+  unfolding next
+  next-from x e = omega arith
+
+  pub next-most : (x e : ℕ) → x ≤ e → next t x e ≤ e
+  unfolding next
+  next-most x e h = omega (arith, first-most (λ q. t (x + q)) (e - x))
+
+-- from the start of a line it is the first
+pub next-zero : (t : ℕ → Bool) (e : ℕ) → next t 0 e ≡ first t e
+unfolding next
+next-zero t e = let z : e - 0 ≡ e = omega arith in rw z (omega (arith, first-same (λ q. t (0 + q)) t e (λ k h. ap t (omega arith))))
+
+-- to the left, down to 1: the test holds here, or it does not, or no place is left
+module _ (t : ℕ → Bool) where
+  pub back-here : (x : ℕ) → 0 < x → t x ≡ true → x - first (λ q. t (x - q)) x ≡ x
+  back-here (suc p) h c = rw (first-here (λ q. t (suc p - q)) p (rw (sub-zero (suc p)) c), sub-zero (suc p))
+
+  pub back-past : (x : ℕ) → 0 < x → t x ≡ false → x - first (λ q. t (x - q)) x ≡ x - 1 - first (λ q. t (x - 1 - q)) (x - 1)
+  back-past (suc p) h c =
+      let z : suc p - 1 ≡ p = omega arith in
+      let same = first-same (λ q. t (suc p - suc q)) (λ q. t (p - q)) p (λ q l. ap t (omega arith)) in
+      let past = first-past (λ q. t (suc p - q)) p (rw (sub-zero (suc p)) c) in
+      rw z (omega (arith, same, past))
+
+  pub back-end : (x : ℕ) → x ≡ 0 → x - first (λ q. t (x - q)) x ≡ 0
+  back-end x h = omega arith
