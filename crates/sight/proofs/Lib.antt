@@ -6,3 +6,4 @@ pub mod Split
 pub mod Offsets
 pub mod Outsides
 pub mod Trims
+pub mod Bytes
