@@ -7,3 +7,4 @@ pub mod Offsets
 pub mod Outsides
 pub mod Trims
 pub mod Bytes
+pub mod Blocks

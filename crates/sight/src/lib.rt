@@ -5,6 +5,7 @@ mod outside;
 mod part;
 mod side;
 
+pub use line::block_bytes;
 pub use line::line_bytes;
 pub use line::write_line;
 pub use look::at;

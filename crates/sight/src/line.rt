@@ -6,7 +6,7 @@ ghost use lib.ListN.{length, getD};
 ghost use lib.Seq.{sets};
 ghost use Rattle.rules.specs.Base.{concat};
 ghost use Rattle.rules.specs.Utf8.{utf8};
-ghost use Rattle.rules.proofs.Candidate.{lineAt};
+ghost use Rattle.rules.proofs.Candidate.{joined, lineAt};
 ghost use Rattle.rules.proofs.Candidate as rule;
 ghost use Rattle.sight.specs.Seen.{seen};
 use crate::look::at;
@@ -33,6 +33,20 @@ pub fn line_bytes(cells: &[u32], width: u32, height: u32, x: u32, y: u32, n: u32
 {
     let end = line_end(cells, width, height, x, y, n);
     marks_bytes(cells, width, height, x, y, end)
+}
+
+// The bytes of n lines of t cells from (x, y) down, joined by 0A.
+pub fn block_bytes(cells: &[u32], width: u32, height: u32, x: u32, y: u32, t: u32, n: u32) -> usize
+    requires { ⌜ (width * height ≤ length (now cells)) × (x + t ≤ 4294967295) × (y + n ≤ 4294967295) × (1 ≤ n) × (n ≤ 2097153) ⌝ }
+    ensures { λ r. ⌜ r ≡ length (joined (map (λ k. lineAt (seen (now (cells .entry)) width height) x (y + k) t) (rule.from 0 n))) ⌝ }
+{
+    let mut total = line_bytes(cells, width, height, x, y, t);
+    let mut k = 1;
+    while k < n {
+        total += line_bytes(cells, width, height, x, y + k, t) + 1;
+        k += 1;
+    }
+    total
 }
 
 // Writes n marks from (x, y), and answers the place after them.
