@@ -5,7 +5,9 @@ use Prim.Native.Nat.{ℕ, suc, zero, _+_, _*_, _≤_, _<_}
 use native.Mathlib.Nat.{not-suc-le-zero}
 use native.Mathlib.Numerals.{add-one}
 use native.Mathlib.Omega.{arith}
-use lib.ListN.{length, length-append, length-map}
+use lib.ListN.{length, set, length-append, length-map}
+use lib.Seq.{sets}
+use Rattle.rules.proofs.Lists.{sets-append}
 use Rattle.rules.specs.Base.{concat}
 use Rattle.rules.specs.Utf8.{utf8}
 use Rattle.rules.proofs.Codec.{utf8-size}
@@ -31,6 +33,19 @@ module _ (f : ℕ → List ℕ) where
 
   pub length-block : (k : ℕ) → 1 ≤ k → length (joined (map f (from 0 (k + 1)))) ≡ length (joined (map f (from 0 k))) + 1 + length (f k)
   length-block k h = omega (arith, ap length (block-more k h), length-append (joined (map f (from 0 k))) (10 ∷ f k))
+
+  -- fewer lines have no more bytes
+  pub block-grow : (k n : ℕ) → 1 ≤ k → length (joined (map f (from 0 k))) ≤ length (joined (map f (from 0 (k + n))))
+  block-grow k zero h = let e : k + 0 ≡ k = omega arith in rw e (omega arith)
+  block-grow k (suc n) h =
+      let e : k + suc n ≡ k + n + 1 = omega arith in
+      rw e (omega (arith, block-grow k n h, length-block (k + n) (omega arith)))
+
+  -- one line more is stored
+  pub block-stored : (l m r : List ℕ) (a b k : ℕ) → 1 ≤ k → b ≡ a + length (joined (map f (from 0 k))) → m ≡ sets l a (joined (map f (from 0 k)))
+      → r ≡ sets (set m b 10) (b + 1) (f k) → r ≡ sets l a (joined (map f (from 0 (k + 1))))
+  block-stored l m r a b k h t p q =
+      q ∙ rw (add-one b) (rw (p, t) (sym (ap (sets l a) (block-more k h) ∙ sets-append l a (joined (map f (from 0 k))) (10 ∷ f k))))
 
 bytes-most : (f : ℕ → ℕ) (n : ℕ) → length (concat utf8 (map f (from 0 n))) ≤ 4 * n
 bytes-most f zero = omega (arith, ap length (bytes-none f))

@@ -7,6 +7,7 @@ mod side;
 
 pub use line::block_bytes;
 pub use line::line_bytes;
+pub use line::write_block;
 pub use line::write_line;
 pub use look::at;
 pub use look::mark_below;

@@ -94,3 +94,31 @@ pub fn write_line(
     let end = line_end(cells, width, height, x, y, n);
     put_marks(cells, width, height, x, y, end, out, from)
 }
+
+// Writes n lines of t cells from (x, y) down, joined by 0A, and answers the place after them.
+pub fn write_block(
+    cells: &[u32],
+    width: u32,
+    height: u32,
+    x: u32,
+    y: u32,
+    t: u32,
+    n: u32,
+    out: &mut [u8],
+    from: usize,
+) -> usize
+    requires { ⌜ (width * height ≤ length (now cells)) × (x + t ≤ 4294967295) × (y + n ≤ 4294967295) × (1 ≤ n)
+        × (from + length (joined (map (λ k. lineAt (seen (now cells) width height) x (y + k) t) (rule.from 0 n))) ≤ length (now out)) ⌝ }
+    requires { ⌜ ((k : ℕ) → k < width * height → getD (now cells) k 0 < 0x200000) ⌝ }
+    ensures { λ r. ⌜ (r ≡ from + length (joined (map (λ k. lineAt (seen (now (cells .entry)) width height) x (y + k) t) (rule.from 0 n))))
+        × (now (out .exit) ≡ sets (now (out .entry)) from (joined (map (λ k. lineAt (seen (now (cells .entry)) width height) x (y + k) t) (rule.from 0 n)))) ⌝ }
+{
+    let mut to = write_line(cells, width, height, x, y, t, out, from);
+    let mut k = 1;
+    while k < n {
+        out[to] = 10;
+        to = write_line(cells, width, height, x, y + k, t, out, to + 1);
+        k += 1;
+    }
+    to
+}
