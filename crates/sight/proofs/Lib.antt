@@ -6,3 +6,5 @@ pub mod Split
 pub mod Offsets
 pub mod Outsides
 pub mod Trims
+pub mod Bytes
+pub mod Blocks

@@ -25,15 +25,19 @@ module _ (g : ℕ → ℕ → ℕ) (x y : ℕ) {r : ℕ} (e : r ≡ g x y) where
   unfolding marked
   no-mark s = rw (eq-eqb (g x y) 0x20 (sym e ∙ s))
 
--- no mark is 0A, if no cell is
-pub seen-open : (cells : List ℕ) (w h : ℕ) → ((k : ℕ) → k < w * h → getD cells k 0 ≡ 10 → ⊥) → (x y : ℕ) → seen cells w h x y ≡ 10 → ⊥
+-- what holds of a space and of each cell of the picture holds of each mark,
+pub seen-all : (P : ℕ → Type 0) (cells : List ℕ) (w h : ℕ) → P 0x20 → ((k : ℕ) → k < w * h → P (getD cells k 0)) → (x y : ℕ) → P (seen cells w h x y)
 unfolding seen pick
-seen-open cells w h f x y e =
+seen-all P cells w h s f x y =
     elim (decLe (suc x) w) [
       | yes a ↦
           elim (decLe (suc y) h) [
-            | yes b ↦ f (y * w + x) (cell-within w h x y (w * h) (omega arith) a b) (rw (lt-ltb x w a, lt-ltb y h b) at e)
-            | no b ↦ absurd (omega (arith, rw (lt-ltb x w a, le-ltb y h (omega arith)) at e))
+            | yes b ↦ rw (lt-ltb x w a, lt-ltb y h b) (f (y * w + x) (cell-within w h x y (w * h) (omega arith) a b))
+            | no b ↦ rw (lt-ltb x w a, le-ltb y h (omega arith)) s
           ]
-      | no a ↦ absurd (omega (arith, rw (le-ltb x w (omega arith)) at e))
+      | no a ↦ rw (le-ltb x w (omega arith)) s
     ]
+
+-- as that it is not 0A
+pub seen-open : (cells : List ℕ) (w h : ℕ) → ((k : ℕ) → k < w * h → getD cells k 0 ≡ 10 → ⊥) → (x y : ℕ) → seen cells w h x y ≡ 10 → ⊥
+seen-open cells w h f = seen-all (λ n. n ≡ 10 → ⊥) cells w h (λ e. absurd (omega arith)) f

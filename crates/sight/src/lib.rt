@@ -1,9 +1,14 @@
 // What is seen in a picture that lies on lent cells, row by row, as numbers.
+mod line;
 mod look;
 mod outside;
 mod part;
 mod side;
 
+pub use line::block_bytes;
+pub use line::line_bytes;
+pub use line::write_block;
+pub use line::write_line;
 pub use look::at;
 pub use look::mark_below;
 pub use look::mark_beside;
