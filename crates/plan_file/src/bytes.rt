@@ -100,7 +100,7 @@ pub fn words(file: &[u8], from: usize, table: &mut [u32])
 }
 
 // The number of nodes to read: 257 stand for all greater numbers.
-pub fn few(count: usize) -> usize
+pub(crate) fn few(count: usize) -> usize
     ensures { λ r. ⌜ r ≡ min count 257 ⌝ }
 {
     if 257 < count {

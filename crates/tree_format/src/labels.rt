@@ -39,7 +39,7 @@ fn label(
 }
 
 // The boxes of all cells, in the table's order.
-pub fn labels(
+pub(crate) fn labels(
     cells: &mut [u32],
     size: Size,
     table: &[u32],

@@ -35,7 +35,7 @@ fn column_indices(cells: &mut [u32], size: Size, cx: &[u32; 256], count: u32)
 }
 
 // The outside: spaces, the axis and the indices.
-pub fn outside(
+pub(crate) fn outside(
     cells: &mut [u32],
     size: Size,
     cx: &[u32; 256],

@@ -89,7 +89,7 @@ fn draw_view(
 }
 
 // Draws a plan of these columns and rows on cells that suffice.
-pub fn painted(
+pub(crate) fn painted(
     table: &[u32],
     nodes: usize,
     titles: &[u8],
