@@ -26,7 +26,7 @@ use Rattle.marks.specs.Row.{drawn, digit, endBy, whiteSpace}
 use Rattle.marks.proofs.Places.{Proper}
 use Rattle.marks.proofs.Plans.{Rising, proper}
 use Rattle.rules.proofs.Digits.{digits-some, digits-seen}
-use Rattle.marks.proofs.Joints.{and-split}
+use Rattle.rules.proofs.CharsBack as Chars
 use Rattle.marks.proofs.Margin.{axis-mark}
 use Rattle.marks.proofs.Reading.{wide-low, column-wide}
 use Rattle.rules.proofs.Scalars.{points-scalar}
@@ -229,7 +229,7 @@ white-drawn k e =
 pub white-digit : (k : ℕ) → digit k ≡ true → whiteSpace k ≡ false
 unfolding digit
 white-digit k e =
-    let q = and-split (leb 0x30 k) (ltb k 0x3A) e in
+    let q = Chars.both (leb 0x30 k) (ltb k 0x3A) e in
     not-white k (omega (arith, leb-true 0x30 k (q .0))) (omega (arith, ltb-true k 0x3A (q .1)))
 
 pub closed-boxes : (p : List Node) → Drawable p → (x y : ℕ) → x < canvasWidth length (view p) → y < canvasHeight (view p)
