@@ -24,7 +24,7 @@ use Rattle.graphs.specs.Entries.{lead}
 use Rattle.graphs.proofs.Names.{length-name}
 use Rattle.graphs.proofs.Entries.{length-node, length-edge}
 use Rattle.graphs.proofs.Concats.{concat-most, concat-map, concat-concat, concat-each, each-most, length-keep, mem-reverse, mem-each}
-use Rattle.levels.proofs.Runs.{column-most}
+use Rattle.rules.proofs.Bounds.{column-le}
 
 -- a byte of a title as two at most, one between a name's numbers at most
 two-most : (b c : Bool) (x : ℕ) → length (pick b (92 ∷ 34 ∷ []) (pick c (92 ∷ 110 ∷ []) (x ∷ []))) ≤ 2
@@ -83,7 +83,7 @@ module _ {T B : List ℕ} (a : Accepted T B) where
       of-one (eqb (length (shown (nodeAt (planOf T B) k))) 0) c m
       (record {
         row = omega (arith, depth-whole T B (a .whole) k, depth-small a k h);
-        column = omega (arith, column-most (planOf T B) k, a .few);
+        column = omega (arith, column-le (planOf T B) k, a .few);
         title = small-title k h;
       })
 

@@ -19,7 +19,7 @@ use Rattle.rules.proofs.Lists.{depth-plan}
 use Rattle.graphs.specs.Entries.{lead, spotIn, nodeIn, Ready}
 use Rattle.graphs.specs.Forms.{spot}
 use Rattle.levels.proofs.Empties.{one-at-most}
-use Rattle.levels.proofs.Runs.{column-most}
+use Rattle.rules.proofs.Bounds.{column-le}
 
 pub lead-parts : (e : List ℕ) → lead e ≡ (10 ∷ 32 ∷ 32 ∷ 32 ∷ 32 ∷ []) ++ e
 unfolding lead bytes concat letters utf8 pick
@@ -69,7 +69,7 @@ unfolding depthIn
 row-small r k h = omega (arith, r .depths k h)
 
 pub column-small : {T C : List ℕ} → Ready T C → (k : ℕ) → k < count T → getD C k 0 < 256
-column-small {T} r k h = omega (arith, r .columns k h, r .few, column-most (planOf T []) k)
+column-small {T} r k h = omega (arith, r .columns k h, r .few, column-le (planOf T []) k)
 
 -- so the name that is put is the node's
 pub name-read : {T C : List ℕ} → Ready T C → (form : Form) (k : ℕ) → k < count T

@@ -11,7 +11,7 @@ use Rattle.rules.specs.Levels.{columnAt, rowsOf, columnsOf, view}
 use Rattle.levels.specs.Accepted.{Accepted}
 use Rattle.levels.proofs.Plans.{deepest, deepest-zero, deepest-suc, rows-deepest, rows-bytes, columns-bytes}
 use Rattle.levels.proofs.Accepted.{depth-small}
-use Rattle.levels.proofs.Runs.{column-most}
+use Rattle.rules.proofs.Bounds.{column-le}
 use Rattle.levels.proofs.Cells.{columns-end, column-in}
 
 -- rows and columns of the view go by the table alone
@@ -46,7 +46,7 @@ module _ {T B : List ℕ} (a : Accepted T B) where
   rows-most = omega (arith, rows-deepest T B, deepest-small (count T) (omega arith))
 
   pub columns-most : columnsOf (planOf T B) ≤ count T
-  columns-most = omega (arith, columns-end a, column-most (planOf T B) (count T))
+  columns-most = omega (arith, columns-end a, column-le (planOf T B) (count T))
 
   -- and a column
   pub column-inside : (k : ℕ) → k < count T → columnAt (planOf T B) k < columnsOf (planOf T B)

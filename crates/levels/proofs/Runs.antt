@@ -19,18 +19,6 @@ use Rattle.levels.specs.Placed.{Placed}
 use Rattle.levels.proofs.Filled.{filled-more}
 use Rattle.levels.proofs.Plans.{count-whole, depth-whole, depth-past}
 
--- the column of a node is at most its place
-leaf-most : (p : List Node) (k : ℕ) → leaf p k ≤ 1
-leaf-most p k =
-    elim (decLe (depthAt p (suc k)) (depthAt p k)) [
-      | yes h ↦ omega (arith, leaf-yes p k h)
-      | no h ↦ omega (arith, leaf-no p k (omega arith))
-    ]
-
-pub column-most : (p : List Node) (k : ℕ) → columnAt p k ≤ k
-column-most p zero = unfold columnAt total in omega arith
-column-most p (suc k) = omega (arith, column-next p k, leaf-most p k, column-most p k)
-
 module _ (T : List ℕ) (w : length T ≡ 3 * count T) where
   -- the node after an inner node has its column,
   pub inner : (k : ℕ) → depthIn T k < depthIn T (k + 1) → columnAt (planOf T []) (k + 1) ≡ columnAt (planOf T []) k

@@ -16,7 +16,7 @@ use Rattle.rules.specs.Plan.{Node, depthAt}
 use Rattle.rules.specs.Levels.{View, columnAt, view}
 use Rattle.rules.specs.Measures.{d, height, rowOffset, rowCentre, canvasHeight, cy, width, columnOffset, columnCentre, canvasWidth, cx, area}
 use Rattle.rules.specs.Drawing.{bendRow}
-use Rattle.rules.proofs.Columns.{offset-total, offset-after}
+use Rattle.rules.proofs.Columns.{offset-total, offset-after, row-offset-total}
 use Rattle.rules.proofs.Digits.{digits-some}
 use Rattle.rules.proofs.Bounds.{Small, digits-two, rows-few, columns-few, column-below, row-below}
 use Rattle.tree_view.specs.Measured.{linesAt, longestAt}
@@ -24,7 +24,7 @@ use Rattle.tree_view.specs.Box.{rightOf, bottomOf}
 use Rattle.tree_view.specs.Sizes.{most}
 use Rattle.tree_view.proofs.Sizes.{most-le, most-ge, after-le}
 use Rattle.tree_view.proofs.Nodes.{width-most, height-most, longest-at-le, lines-at-le}
-use Rattle.tree_view.proofs.Ruled.{column-after, row-after, row-total, view-columns, view-rows}
+use Rattle.tree_view.proofs.Ruled.{column-after, row-after, view-columns, view-rows}
 
 risen : (b : Bool) (m s : ℕ) → m ≤ pick b (max m s) m
 unfolding pick
@@ -83,7 +83,7 @@ module _ (p : List Node) where
   pub row-end : (i : ℕ) → i < view p .rows → rowOffset (view p) i + height (view p) i ≤ canvasHeight (view p)
   unfolding canvasHeight total
   row-end i h =
-      omega (arith, row-total (view p) i, total-rise (height (view p)) (suc i) (view p .rows) h)
+      omega (arith, row-offset-total (view p) i, total-rise (height (view p)) (suc i) (view p .rows) h)
 
   -- centres lie inside, and rise
   pub cx-ge : (j : ℕ) → d (view p) + 7 ≤ cx length (view p) j
@@ -92,7 +92,7 @@ module _ (p : List Node) where
 
   pub cy-ge : (i : ℕ) → 4 ≤ cy (view p) i
   unfolding cy rowCentre
-  cy-ge i = omega (arith, row-total (view p) i, height-ge i)
+  cy-ge i = omega (arith, row-offset-total (view p) i, height-ge i)
 
   pub cx-apart : (j k : ℕ) → j < k → cx length (view p) j + 6 ≤ cx length (view p) k
   unfolding cx columnCentre halfUp
@@ -101,7 +101,7 @@ module _ (p : List Node) where
   pub cy-apart : (i k : ℕ) → i < k → cy (view p) i + 5 ≤ cy (view p) k
   unfolding cy rowCentre total
   cy-apart i k h =
-      omega (arith, row-total (view p) i, row-total (view p) k, total-rise (height (view p)) (suc i) k h, height-ge i, height-ge k)
+      omega (arith, row-offset-total (view p) i, row-offset-total (view p) k, total-rise (height (view p)) (suc i) k h, height-ge i, height-ge k)
 
   module _ (k : ℕ) (h : k < length p) where
     -- the box of node k begins right of its column's offset, and below its row's
@@ -122,7 +122,7 @@ module _ (p : List Node) where
     pub bottom-room : bottomOf (cy (view p) (depthAt p k)) (linesAt p k) < canvasHeight (view p)
     unfolding cy rowCentre
     bottom-room =
-        omega (arith, fits-height k h, row-total (view p) (depthAt p k), row-end (depthAt p k) (omega (arith, row-below p k h, view-rows p)))
+        omega (arith, fits-height k h, row-offset-total (view p) (depthAt p k), row-end (depthAt p k) (omega (arith, row-below p k h, view-rows p)))
 
 module _ (p : List Node) (s : Small p) where
   pub width-le : (j : ℕ) → width length (view p) j ≤ 1030

@@ -9,7 +9,7 @@ use Rattle.rules.specs.Base.{halfUp, total}
 use Rattle.rules.specs.Plan.{Node, depthAt, depthIn}
 use Rattle.rules.specs.Levels.{View, columnAt, rowsOf, columnsOf, view}
 use Rattle.rules.specs.Measures.{d, height, rowOffset, rowCentre, canvasHeight, cy, width, columnOffset, columnCentre, canvasWidth, cx, area}
-use Rattle.rules.proofs.Columns.{offset-total}
+use Rattle.rules.proofs.Columns.{offset-total, row-offset-total}
 use Rattle.rules.proofs.Bounds.{column-below}
 use Rattle.levels.specs.Filled.{filled}
 use Rattle.levels.proofs.Filled.{filled-at, filled-same}
@@ -32,11 +32,6 @@ pub row-after : (v : View) (i : ℕ) → rowOffset v i ≡ after (height v) 3 3 
 unfolding rowOffset after
 row-after v zero = refl
 row-after v (suc i) = omega (arith, row-after v i)
-
-pub row-total : (v : View) (i : ℕ) → rowOffset v i ≡ 3 + total (height v) i + 3 * i
-unfolding rowOffset total
-row-total v zero = omega arith
-row-total v (suc i) = omega (arith, row-total v i)
 
 pub view-columns : (p : List Node) → view p .columns ≡ columnsOf p
 unfolding view
@@ -141,7 +136,7 @@ module _ (v : View) (r : Rows) (e : r ≡ ruledRows v) (few : v .rows ≤ 32) wh
   rows-end some =
       let i = v .rows - 1 in
       let q : suc i ≡ v .rows = omega arith in
-      omega (arith, row-offset-at i (omega arith), row-height-at i (omega arith), row-total v i, ap (total (height v)) q)
+      omega (arith, row-offset-at i (omega arith), row-height-at i (omega arith), row-offset-total v i, ap (total (height v)) q)
 
   pub cy-at : (i : ℕ) → i < v .rows → sumAt (r .offset) (r .center) i ≡ cy v i
   unfolding cy

@@ -8,7 +8,8 @@ use Rattle.rules.specs.Plan.{count, depthIn, planOf}
 use Rattle.rules.specs.Levels.{columnAt}
 use Rattle.levels.specs.Placed.{Placed}
 use Rattle.levels.proofs.Plans.{count-whole, whole-count}
-use Rattle.levels.proofs.Runs.{column-most, inner, flat, last, none, then}
+use Rattle.rules.proofs.Bounds.{column-le}
+use Rattle.levels.proofs.Runs.{inner, flat, last, none, then}
 use borrow.Author.Needs.{needs}
 use Prim.Native.Nat.{ℕ, _<_, _≤_, _+_, _-_, _*_}
 use borrow.Fn.Kinds.{In}
@@ -117,7 +118,7 @@ node-end-add-t13 :
     node-end-lts.Need-add-t13 (run-end-below t, run-end.Post) (node-end-at t) node-end.Post
 node-end-add-t13 t c =
     let s = c .before .before .before in
-    record { fits = omega (arith, column-most (planOf (s .args .table .now) []) (s .args .at), s .pre .1) }
+    record { fits = omega (arith, column-le (planOf (s .args .table .now) []) (s .args .at), s .pre .1) }
 
 node-end-returns-2 :
     (t : ℕ) →
