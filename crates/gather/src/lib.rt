@@ -1,0 +1,1 @@
+// The plan that is seen on lent cells, gathered cell by cell.
