@@ -1,7 +1,8 @@
 """What the programs are held to: requests to `answers`, and the line that each must get.
 
-Texts and the crate's graphs come from the Rust crate itself (../shared/oracle builds its code); refusals, sizes, the fenced graph and
-what is left in lent memory from a second reading of document 01 (../shared/model/rules.py). Nothing here runs our code.
+Texts and the crate's graphs come from the Rust crate itself (../shared/oracle builds its code); refusals, sizes, the fenced graph, the
+plan that is read off a picture and what is left in lent memory from a second reading of document 01 (../shared/model/rules.py).
+Nothing here runs our code.
 """
 import os, struct, subprocess, sys
 
@@ -11,7 +12,7 @@ sys.path.insert(0, os.path.join(SHARED, 'model'))
 try: import rules
 except ImportError: rules = None
 
-TEXT, GRAPH, FENCED, FILE = 0, 1, 2, 4
+TEXT, GRAPH, FENCED, READ, FILE = 0, 1, 2, 3, 4
 CELL, BYTE, PRIME = 0xA5A5A5A5, 0xA5, 4294967291
 MOST_LENT_CELLS, MOST_OUT, MOST_TITLES, MOST_ENTRIES, MOST_PAYLOAD = 262144, 524288, 262144, 1024, 524288
 
@@ -75,6 +76,40 @@ class Request:
         assert len(cells) == width * height
         if len(crate) > self.lent2: return rules.ROOM, len(crate), none, cells, b''
         return rules.DONE, len(crate), (width, height, sum(not t for _, t in self.plan)), cells, crate
+
+
+class Picture:
+    """A picture for the reader. Whether some ordinary plan is drawn so, and which, says the second reading of document 01."""
+    plan = form = None
+
+    def __init__(self, lent1, lent2, lent3, picture):
+        self.lent1, self.lent2, self.lent3, self.picture = lent1, lent2, lent3, picture
+
+    def sent(self): return head(READ, self.lent1, self.lent2, self.lent3, len(self.picture)) + self.picture
+
+    def within(self):
+        return self.lent1 <= MOST_LENT_CELLS and self.lent2 <= MOST_ENTRIES and self.lent3 <= MOST_TITLES and len(self.picture) <= MOST_PAYLOAD
+
+    def line(self, crate):
+        number, second, cells, table, titles = self.settled()
+        return '%d %d 0 0 0 %d %d %d' % (number, second, left(cells, self.lent1, CELL), left(table, self.lent2, CELL), left(titles, self.lent3, BYTE))
+
+    def settled(self):
+        """Number, second number, and what the canvas, the table and the titles begin with afterwards."""
+        if not rules.valid(self.picture): return rules.UTF8, 0, [], [], b''
+        if not self.picture.endswith(b'\n'): return rules.UNDRAWN, 0, [], [], b''
+        rows = self.picture.decode()[:-1].split('\n')
+        width = max(map(len, rows))
+        need = width * len(rows)
+        if need > rules.LIMIT: return rules.LARGE, 0, [], [], b''
+        if need > self.lent1: return rules.CANVAS, need, [], [], b''
+        cells = [ord(c) for row in rows for c in row.ljust(width)]
+        plan = rules.read(self.picture)
+        if not isinstance(plan, list): return plan, 0, cells, [], b''
+        table, titles = laid(plan)
+        if len(table) > self.lent2: return rules.ROOM, len(table), cells, [], b''
+        if len(titles) > self.lent3: return rules.ROOM, len(titles), cells, [], b''
+        return rules.DONE, len(plan), cells, table, titles
 
 
 def left(begun, lent, fill):
@@ -157,3 +192,42 @@ def overlapped(rng, plan):
         a, b = sorted((rng.randrange(31), rng.randrange(31)))
         table += [d, ends[a], ends[b] - ends[a]]
     return table, text.encode()
+
+
+# ---- pictures
+
+def spaced(rng, plan):
+    """The plan with some titles whose lines end in spaces."""
+    return [(d, b'\n'.join(l + b' ' * rng.choice([0, 0, 1, 2]) for l in t.split(b'\n'))) for d, t in plan]
+
+
+def widened(rng, lines):
+    """A box's column one cell wider: on every line a mark is doubled at one place."""
+    at = rng.randrange(max(map(len, lines)) + 1)
+    return [l[:at] + l[at - 1:at] + l[at:] if at else l for l in lines]
+
+
+def hurt(rng, picture):
+    """A drawing with one fault: a byte or a mark changed, a line cut, left out, doubled or swapped, a space at an end, a box widened."""
+    lines = picture.decode()[:-1].split('\n')
+    k, j = rng.randrange(len(lines)), rng.randrange(len(lines))
+    kind = rng.randrange(13)
+    if kind == 0:
+        b = bytearray(picture)
+        b[rng.randrange(len(b))] = rng.choice([10, 32, 0x61, 0xe2, rng.randrange(256)])
+        return bytes(b)
+    if kind == 1: return picture[:rng.randrange(len(picture))]
+    if kind == 2: return picture[:-1] + rng.choice([b'', b' \n', b'\n\n', b'\n \n', b'x\n'])
+    if kind in (3, 4, 5) and lines[k]:
+        at = rng.randrange(len(lines[k]))
+        lines[k] = lines[k][:at] + rng.choice('│─╭╮╰╯┴┬┌ a0漢') + lines[k][at + 1:]
+    elif kind == 6: lines[k] = lines[k][:rng.randrange(len(lines[k]) + 1)]
+    elif kind == 7: lines[k] += rng.choice([' ', 'x', '─', '│'])
+    elif kind == 8: lines[k], lines[j] = lines[j], lines[k]
+    elif kind == 9: lines = widened(rng, lines)
+    elif kind == 10: del lines[k]
+    elif kind == 11: lines.insert(k, lines[j])
+    elif kind == 12 and lines[k]:
+        at = rng.randrange(len(lines[k]))
+        lines[k] = lines[k][:at] + lines[k][at + 1:]
+    return ''.join(l + '\n' for l in lines).encode()

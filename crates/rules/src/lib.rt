@@ -3,6 +3,8 @@ mod numbers;
 
 pub use numbers::done;
 pub use numbers::number;
+pub use numbers::reading_number;
+pub use numbers::reading_second;
 pub use numbers::second;
 
 pub const MOST_NODES: usize = 256;

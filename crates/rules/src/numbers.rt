@@ -1,7 +1,8 @@
 // An answer's numbers.
 use crate::Answer;
+use crate::Reading;
 ghost use mathlib.Core.Path.{_≡_};
-ghost use Rattle.rules.specs.Numbers.{number as numberOf, second as secondOf};
+ghost use Rattle.rules.specs.Numbers.{number as numberOf, second as secondOf, readerNumber, readerSecond};
 ghost use Rattle.rules.specs.Answers.{done as isDone};
 
 // The number of an answer.
@@ -47,4 +48,32 @@ pub fn done(a: Answer) -> bool
     ensures { λ r. ⌜ r ≡ isDone a ⌝ }
 {
     number(a) == 0
+}
+
+// The number of a reading.
+pub fn reading_number(r: Reading) -> u32
+    ensures { λ n. ⌜ n ≡ readerNumber r ⌝ }
+{
+    match r {
+        Reading::Done(_) => 0,
+        Reading::Utf8 => 6,
+        Reading::Undrawn => 10,
+        Reading::Large => 7,
+        Reading::Canvas(_) => 8,
+        Reading::Room(_) => 9,
+    }
+}
+
+// Its second number.
+pub fn reading_second(r: Reading) -> usize
+    ensures { λ n. ⌜ n ≡ readerSecond r ⌝ }
+{
+    match r {
+        Reading::Done(nodes) => nodes,
+        Reading::Utf8 => 0,
+        Reading::Undrawn => 0,
+        Reading::Large => 0,
+        Reading::Canvas(needed) => needed,
+        Reading::Room(needed) => needed,
+    }
 }
