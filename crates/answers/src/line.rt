@@ -2,6 +2,7 @@
 use console::print_number;
 use rules::Answer;
 use rules::Drawing;
+use rules::Reading;
 
 // The two numbers of an answer.
 fn print_answer(a: Answer) {
@@ -21,6 +22,13 @@ pub fn print_drawing(d: Drawing) {
 // The numbers of a graph, which has no size.
 pub fn print_graph(a: Answer) {
     print_answer(a);
+    console::print(b"0 0 0 ");
+}
+
+// The numbers of a reading, which has no size.
+pub fn print_reading(r: Reading) {
+    print_number(rules::reading_number(r) as u64, 32);
+    print_number(rules::reading_second(r) as u64, 32);
     console::print(b"0 0 0 ");
 }
 

@@ -94,14 +94,6 @@ fn cells_of(op: u32, asked: usize) -> usize {
     asked
 }
 
-// Ops 0, 1, 2 and 4 are answered.
-fn known(op: u32) -> bool {
-    if op == 3 {
-        return false;
-    }
-    op < 5
-}
-
 // Reads the payload of a request whose head was read, and answers it.
 fn request(
     head: &[u8],
@@ -114,7 +106,7 @@ fn request(
     let lent1 = cells_of(op, wide(word(head, 4)));
     let lent2 = wide(word(head, 8));
     let size = wide(word(head, 16));
-    if !known(op) {
+    if 4 < op {
         return bad();
     }
     if cells.len() < lent1 {
@@ -139,6 +131,73 @@ fn request(
     )
 }
 
+// Reads a picture with all lent memory fresh, prints the answer, and sums the memory up.
+fn read_picture(picture: &[u8], cells: &mut [u32], table: &mut [u32], titles: &mut [u8]) -> bool {
+    lent::fresh_cells(cells);
+    lent::fresh_cells(table);
+    lent::fresh_bytes(titles);
+    line::print_reading(picture::read(picture, cells, table, titles));
+    line::print_sums(
+        lent::sum_cells(cells),
+        lent::sum_cells(table),
+        lent::sum_bytes(titles),
+    );
+    true
+}
+
+// Reads the picture of a request whose head was read, and answers it.
+fn reading(
+    head: &[u8],
+    input: &mut [u8],
+    table: &mut [u32],
+    cells: &mut [u32],
+    titles: &mut [u8],
+) -> bool {
+    let lent1 = wide(word(head, 4));
+    let lent2 = wide(word(head, 8));
+    let lent3 = wide(word(head, 12));
+    let size = wide(word(head, 16));
+    if cells.len() < lent1 {
+        return bad();
+    }
+    if table.len() < lent2 {
+        return bad();
+    }
+    if 262144 < lent3 {
+        return bad();
+    }
+    if titles.len() < lent3 {
+        return bad();
+    }
+    if input.len() < size {
+        return bad();
+    }
+    let got = console::read_all(&mut input[..size]);
+    if got.size < size {
+        return bad();
+    }
+    read_picture(
+        &input[..size],
+        &mut cells[..lent1],
+        &mut table[..lent2],
+        &mut titles[..lent3],
+    )
+}
+
+// Answers a request whose head was read: op 3 has a picture to read.
+fn asked(
+    head: &[u8],
+    input: &mut [u8],
+    table: &mut [u32],
+    cells: &mut [u32],
+    out: &mut [u8],
+) -> bool {
+    if word(head, 0) == 3 {
+        return reading(head, input, table, cells, out);
+    }
+    request(head, input, table, cells, out)
+}
+
 // Answers the next request, if there is one.
 fn next(input: &mut [u8], table: &mut [u32], cells: &mut [u32], out: &mut [u8]) -> bool {
     let mut head = [0u8; 20];
@@ -153,7 +212,7 @@ fn next(input: &mut [u8], table: &mut [u32], cells: &mut [u32], out: &mut [u8]) 
     if n < 20 {
         return bad();
     }
-    request(&head, input, table, cells, out)
+    asked(&head, input, table, cells, out)
 }
 
 // Answers requests until the input ends. (A proved loop has to end, so it counts its turns down, from a number that no run uses up.)
