@@ -29,9 +29,6 @@ word-requires-4 c κs = search needs
 wide-requires-3 : tie.Need-wide-requires-3
 wide-requires-3 c κs = search needs
 
-known-requires : tie.Need-known-requires
-known-requires c κs = search needs
-
 bad-requires : tie.Need-bad-requires
 bad-requires c κs = search needs
 
@@ -122,7 +119,6 @@ request-spec =
     wide-requires-2
     word-requires-4
     wide-requires-3
-    known-requires
     bad-requires
     returns
     bad-requires-2
