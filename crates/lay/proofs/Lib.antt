@@ -7,3 +7,4 @@ pub mod Unspaced
 pub mod Starts
 pub mod Refusals
 pub mod Seen
+pub mod Passing

@@ -1,14 +1,49 @@
 // A picture's cells: the code points of each line, and spaces up to the longest.
 ghost use mathlib.Core.Path.{_≡_};
 ghost use mathlib.Core.Bool.{true};
-ghost use Prim.Native.Nat.{_≤_};
-ghost use lib.ListN.{length};
+ghost use Prim.Native.Nat.{_+_, _-_, _≤_};
+ghost use lib.ListN.{length, take, drop};
+ghost use lib.Seq.{sets};
 ghost use Rattle.rules.specs.Base.{greatest, laid};
-ghost use Rattle.rules.specs.Utf8.{valid};
+ghost use Rattle.rules.specs.Utf8.{valid, points};
 ghost use Rattle.rules.specs.Lines.{linesOf};
 ghost use Rattle.rules.specs.Reader.{ended, pictureWidth, pictureArea, padded};
 ghost use Rattle.lay.specs.Rows.{codes, rowOf, rows};
 use crate::size::body;
+
+// Copies the bytes from `from` up to `to` of a line, one to a cell, from cell k on.
+fn copy(row: &mut [u32], k: usize, line: &[u8], from: usize, to: usize)
+    requires { ⌜ (from ≤ to) × (to ≤ length (now line)) × (k + (to - from) ≤ length (now row)) ⌝ }
+    ensures { λ _. ⌜ now (row .exit) ≡ sets (now (row .entry)) k (take (to - from) (drop from (now (line .entry)))) ⌝ }
+{
+    let n = to - from;
+    let mut i = 0;
+    while i < n {
+        row[k + i] = line[from + i] as u32;
+        i += 1;
+    }
+}
+
+// Writes a line's code points from the first cell on. (Most are bytes below 80, in runs.)
+fn put_points(row: &mut [u32], line: &[u8])
+    requires { ⌜ (valid (now line) ≡ true) × (codes (now line) ≤ length (now row)) ⌝ }
+    ensures { λ _. ⌜ now (row .exit) ≡ sets (now (row .entry)) 0 (points (now (line .entry))) ⌝ }
+{
+    let mut at = 0;
+    let mut k = 0;
+    while at < line.len() {
+        let to = text::run_within(line, at, 0, 0x7F);
+        copy(row, k, line, at, to);
+        k += to - at;
+        if to == line.len() {
+            return;
+        }
+        let p = text::decode(&line[to..]);
+        row[k] = p.value;
+        at = to + p.size;
+        k += 1;
+    }
+}
 
 // Makes a row a line's code points, and spaces.
 fn lay_row(row: &mut [u32], line: &[u8])
@@ -17,7 +52,7 @@ fn lay_row(row: &mut [u32], line: &[u8])
 {
     let n = row.len();
     canvas::fill(row, 0, n, canvas::VOID);
-    canvas::letters(row, 0, line);
+    put_points(row, line);
 }
 
 // Makes the first cells the rows of the lines of these bytes, one after another.

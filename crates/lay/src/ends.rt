@@ -36,8 +36,8 @@ pub fn spaced(picture: &[u8]) -> bool
         if ends_spaced(before, b) {
             return true;
         }
-        before = b;
-        k += 1;
+        k = text::run_within(picture, k + 1, 11, 255);
+        before = picture[k - 1];
     }
     false
 }

@@ -29,7 +29,7 @@ fn lines_in(bytes: &[u8]) -> usize
         if bytes[k] == 10 {
             lines += 1;
         }
-        k += 1;
+        k = text::run_within(bytes, k + 1, 11, 255);
     }
     lines
 }

@@ -1,3 +1,5 @@
 pub mod Ones
 pub mod Wanted
 pub mod FirstBytes
+pub mod Within
+pub mod Passed

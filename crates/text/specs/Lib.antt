@@ -1,2 +1,4 @@
 pub mod Ones
 pub mod Wanted
+pub mod Within
+pub mod Passed

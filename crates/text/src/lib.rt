@@ -2,6 +2,7 @@
 mod encoding;
 mod line;
 mod number;
+mod run;
 mod utf8;
 
 pub use encoding::encode;
@@ -14,6 +15,7 @@ pub use number::digits;
 pub use number::greater;
 pub use number::longer;
 pub use number::wide;
+pub use run::run_within;
 pub use utf8::Point;
 pub use utf8::decode;
 pub use utf8::points_in;

@@ -3,11 +3,14 @@ ghost use mathlib.Core.Path.{_≡_};
 ghost use mathlib.Core.Bool.{true, false};
 ghost use mathlib.Core.List.{List, _∷_};
 ghost use Prim.Native.Nat.{ℕ, _+_, _%_, _<_, _≤_};
-ghost use lib.ListN.{length, getD};
+ghost use lib.ListN.{length, getD, drop};
 ghost use Rattle.rules.specs.Utf8.{following, continues, points, more};
 ghost use Rattle.rules.specs.Utf8 as rule;
 ghost use Rattle.text.specs.Ones as spec;
 ghost use Rattle.text.specs.Wanted.{wanted};
+ghost use Rattle.text.specs.Passed.{Passed, beginsOne};
+use crate::run::lies;
+use crate::run::run_within;
 
 // The number of leading ones of a byte.
 fn ones(b: u8) -> u32
@@ -148,6 +151,65 @@ fn step(w: Wanted, b: u8) -> Wanted
     }
 }
 
+// The place after three bytes that are one code point from E2 on; or `at`.
+fn pass_three(s: &[u8], at: usize) -> usize
+    requires { ⌜ (at < length (now s)) × (getD (now s) at 0 ≡ 0xE2) ⌝ }
+    ensures { λ r. ⌜ Passed (now (s .entry)) at r ⌝ }
+{
+    if s.len() - at < 3 {
+        return at;
+    }
+    if lies(s[at + 1], 0x80, 0xBF) {
+        if lies(s[at + 2], 0x80, 0xBF) {
+            return at + 3;
+        }
+    }
+    at
+}
+
+// The place after one code point of the kinds that pictures are full of, a byte below 80 or three from E2 on; or `at`.
+fn pass_one(s: &[u8], at: usize) -> usize
+    requires { ⌜ at < length (now s) ⌝ }
+    ensures { λ r. ⌜ Passed (now (s .entry)) at r ⌝ }
+{
+    let b = s[at];
+    if b < 0x80 {
+        return at + 1;
+    }
+    if b == 0xE2 {
+        return pass_three(s, at);
+    }
+    at
+}
+
+// The place after a run of such code points.
+fn pass(s: &[u8], from: usize) -> usize
+    requires { ⌜ from ≤ length (now s) ⌝ }
+    ensures { λ r. ⌜ Passed (now (s .entry)) from r ⌝ }
+{
+    let mut at = from;
+    while at < s.len() {
+        let to = pass_one(s, at);
+        if to == at {
+            return at;
+        }
+        at = run_within(s, to, 0, 0x7F);
+    }
+    at
+}
+
+// The place to go on from where w is wanted: past a run, if nothing is.
+fn onward(w: Wanted, s: &[u8], from: usize) -> usize
+    requires { ⌜ from ≤ length (now s) ⌝ }
+    ensures { λ r. ⌜ (from ≤ r) × (r ≤ length (now (s .entry)))
+        × (continues (wanted (w .bytes) (w .low) (w .high)) (drop from (now (s .entry))) ≡ continues (wanted (w .bytes) (w .low) (w .high)) (drop r (now (s .entry)))) ⌝ }
+{
+    if w.bytes == 0 {
+        return pass(s, from);
+    }
+    from
+}
+
 // All of s is valid UTF-8.
 pub fn valid(s: &[u8]) -> bool
     ensures { λ r. ⌜ r ≡ rule.valid (now (s .entry)) ⌝ }
@@ -157,10 +219,10 @@ pub fn valid(s: &[u8]) -> bool
         low: 0x80,
         high: 0xBF,
     };
-    let mut at = 0;
+    let mut at = pass(s, 0);
     while at < s.len() {
         w = step(w, s[at]);
-        at += 1;
+        at = onward(w, s, at + 1);
     }
     w.bytes == 0
 }
@@ -211,7 +273,20 @@ pub fn decode(rest: &[u8]) -> Point
     }
 }
 
-// The number of code points of valid UTF-8.
+// 1 for a byte that begins a code point, 0 for one that goes on with it.
+fn begins(b: u8) -> usize
+    ensures { λ r. ⌜ r ≡ beginsOne b ⌝ }
+{
+    if b < 0x80 {
+        return 1;
+    }
+    if b < 0xC0 {
+        return 0;
+    }
+    1
+}
+
+// The number of code points of valid UTF-8: each has one byte that begins it.
 pub fn points_in(s: &[u8]) -> usize
     requires { ⌜ rule.valid (now s) ≡ true ⌝ }
     ensures { λ r. ⌜ r ≡ length (points (now (s .entry))) ⌝ }
@@ -219,9 +294,8 @@ pub fn points_in(s: &[u8]) -> usize
     let mut at = 0;
     let mut count: usize = 0;
     while at < s.len() {
-        let p = decode(&s[at..]);
-        at += p.size;
-        count += 1;
+        count += begins(s[at]);
+        at += 1;
     }
     count
 }

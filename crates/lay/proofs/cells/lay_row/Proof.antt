@@ -7,8 +7,8 @@ use Rattle.lay.proofs.cells.lay_row.Tie as tie
 fill-requires : tie.Need-fill-requires
 fill-requires c κs = search needs
 
-letters-requires : tie.Need-letters-requires
-letters-requires c κs = search needs
+put-points-requires : tie.Need-put-points-requires
+put-points-requires c κs = search needs
 
 same-length : tie.Need-same-length
 same-length c = search needs
@@ -16,8 +16,8 @@ same-length c = search needs
 returns : tie.Need-returns
 returns c =
     let a = c .before .before .before .before .before .before .before .before .before .before .args in
-    row-laid (a .row .now) (c .before .before .before .before .before .before .fill .last .0) (c .before .before .letters .last .0) (a .line .now) (search needs)
-    (c .before .before .before .before .before .before .fill .ensures) (c .before .before .letters .ensures)
+    row-laid (a .row .now) (c .before .before .before .before .before .before .fill .last .0) (c .before .before .put-points .last .0) (a .line .now) (search needs)
+    (c .before .before .before .before .before .before .fill .ensures) (c .before .before .put-points .ensures)
 
 pub lay-row-spec : {M : Type 1} → statement M
-lay-row-spec = tie.close (tie.spec fill-requires letters-requires same-length returns)
+lay-row-spec = tie.close (tie.spec fill-requires put-points-requires same-length returns)

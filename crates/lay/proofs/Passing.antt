@@ -1,0 +1,111 @@
+-- Bytes that are passed in a run: below 80 each is a code point of its own, and without a byte 0A there is no line more and no line's end.
+use mathlib.Core.Path.{_≡_, refl, ap, sym, _∙_}
+use mathlib.Core.Bool.{Bool, true, false, _&&_, _||_}
+use mathlib.Core.List.{List, [], _∷_, _++_}
+use Prim.Native.Nat.{ℕ, suc, zero, _+_, _-_, _≤_, _<_}
+use native.Mathlib.Numerals.{add-one}
+use native.Mathlib.Omega.{arith}
+use lib.Dec.{eqb}
+use lib.ListN.{length, getD, take, drop, set, length-set, length-append, length-drop, drop-of-length-le}
+use lib.Seq.{drop-cons, sets, length-sets, length-take-le}
+use borrow.Author.Tests.{ne-eqb}
+use Rattle.rules.specs.Utf8.{valid, points}
+use Rattle.rules.specs.Lines.{linesOf}
+use Rattle.rules.proofs.Chars.{points-one, valid-one, following-00}
+use Rattle.rules.proofs.FirstChar.{CharHere}
+use Rattle.rules.proofs.Lists.{sets-append}
+use Rattle.text.specs.Within.{Within}
+use Rattle.lay.specs.Spaced.{spacedAfter}
+use Rattle.lay.proofs.Counts.{line-same}
+
+module _ (s : List ℕ) where
+  -- n bytes below 80 from a on are the next n code points
+  pub low-points : (a n : ℕ) → a + n ≤ length s → Within s 0 0x7F a (a + n) → points (drop a s) ≡ take n (drop a s) ++ points (drop (a + n) s)
+  low-points a zero h w = let e : a + 0 ≡ a = omega arith in rw e
+  low-points a (suc n) h w =
+      let e : a + suc n ≡ suc a + n = omega arith in
+      let c = drop-cons s a 0 (omega arith) in
+      ap points c ∙ points-one (getD s a 0) (drop (suc a) s) (omega (arith, w a (omega arith) (omega arith) .1))
+      ∙ ap (λ (l : List ℕ). getD s a 0 ∷ l) (low-points (suc a) n (omega arith) (λ k l r. w k (omega arith) (omega arith)))
+      ∙ rw (e, c)
+
+  pub low-valid : (a n : ℕ) → a + n ≤ length s → Within s 0 0x7F a (a + n) → valid (drop a s) ≡ valid (drop (a + n) s)
+  low-valid a zero h w = let e : a + 0 ≡ a = omega arith in rw e
+  low-valid a (suc n) h w =
+      let e : a + suc n ≡ suc a + n = omega arith in
+      ap valid (drop-cons s a 0 (omega arith))
+      ∙ valid-one (getD s a 0) (drop (suc a) s) (following-00 (getD s a 0) (omega (arith, w a (omega arith) (omega arith) .1)))
+      ∙ low-valid (suc a) n (omega arith) (λ k l r. w k (omega arith) (omega arith)) ∙ rw e
+
+  -- no byte 0A, no line
+  pub no-line : (a n : ℕ) → a + n ≤ length s → Within s 11 255 a (a + n) → length (linesOf (drop a s)) ≡ length (linesOf (drop (a + n) s))
+  no-line a zero h w = let e : a + 0 ≡ a = omega arith in rw e
+  no-line a (suc n) h w =
+      let e : a + suc n ≡ a + 1 + n = omega arith in
+      line-same s a (omega arith) (λ z. omega (arith, w a (omega arith) (omega arith) .0)) ∙ no-line (a + 1) n (omega arith) (λ k l r. w k (omega arith) (omega arith)) ∙ rw e
+
+  -- and no line's end
+  pub no-end : (a n : ℕ) → 1 ≤ a → a + n ≤ length s → Within s 11 255 a (a + n)
+      → spacedAfter (getD s (a - 1) 0) (drop a s) ≡ spacedAfter (getD s (a + n - 1) 0) (drop (a + n) s)
+  unfolding spacedAfter
+  no-end a zero l h w = let e : a + 0 ≡ a = omega arith in rw e
+  no-end a (suc n) l h w =
+      let e : a + suc n ≡ a + 1 + n = omega arith in
+      let z : a + 1 - 1 ≡ a = omega arith in
+      let q : eqb (getD s a 0) 10 ≡ false = ne-eqb (getD s a 0) 10 (λ y. omega (arith, w a (omega arith) (omega arith) .0)) in
+      let one : spacedAfter (getD s (a - 1) 0) (drop a s) ≡ spacedAfter (getD s a 0) (drop (a + 1) s) = rw (add-one, drop-cons s a 0 (omega arith), q) in
+      rw e (one ∙ (rw z at (no-end (a + 1) n (omega arith) (omega arith) (λ k l r. w k (omega arith) (omega arith)))))
+
+  -- the next byte to copy
+  pub next-byte : (a n : ℕ) → a < length s → 0 < n → take n (drop a s) ≡ getD s a 0 ∷ take (n - 1) (drop (a + 1) s)
+  next-byte a zero h k = absurd (omega arith)
+  next-byte a (suc n) h k = let e : suc n - 1 ≡ n = omega arith in rw (e, add-one, drop-cons s a 0 h)
+
+-- ---- a line being written to a row: `at` bytes of it are read, and k cells written
+pub record Left (old row line : List ℕ) (at k : ℕ) : Type 0 where
+  pub here : at ≤ length line
+  pub rest : valid (drop at line) ≡ true
+  pub room : k + length (points (drop at line)) ≤ length row
+  pub long : length row ≡ length old
+  pub same : sets old 0 (points line) ≡ sets row k (points (drop at line))
+
+module _ (old row line : List ℕ) (at k : ℕ) (f : Left old row line at k) where
+  -- a run of bytes below 80 is copied
+  pub left-run : (to : ℕ) (new : List ℕ) → at ≤ to → to ≤ length line → Within line 0 0x7F at to → new ≡ sets row k (take (to - at) (drop at line))
+      → Left old new line to (k + (to - at))
+  left-run to new h l w e =
+      let z : at + (to - at) ≡ to = omega arith in
+      let p = rw z at (low-points line at (to - at) (omega arith) (rw z w)) in
+      let n : length (take (to - at) (drop at line)) ≡ to - at = length-take-le (to - at) (drop at line) (omega (arith, length-drop at line)) in
+      record {
+        here = l;
+        rest = sym (rw z at (low-valid line at (to - at) (omega arith) (rw z w))) ∙ f .rest;
+        room = omega (arith, f .room, ap length p, length-append (take (to - at) (drop at line)) (points (drop to line)), ap length e, length-sets row k (take (to - at) (drop at line)));
+        long = ap length e ∙ length-sets row k (take (to - at) (drop at line)) ∙ f .long;
+        same = f .same ∙ ap (sets row k) p ∙ sets-append row k (take (to - at) (drop at line)) (points (drop to line)) ∙ rw (n, e);
+      }
+
+  pub run-fits : (to : ℕ) → at ≤ to → to ≤ length line → Within line 0 0x7F at to → k + (to - at) ≤ length row
+  run-fits to h l w =
+      let z : at + (to - at) ≡ to = omega arith in
+      let p = rw z at (low-points line at (to - at) (omega arith) (rw z w)) in
+      let n : length (take (to - at) (drop at line)) ≡ to - at = length-take-le (to - at) (drop at line) (omega (arith, length-drop at line)) in
+      omega (arith, f .room, ap length p, length-append (take (to - at) (drop at line)) (points (drop to line)))
+
+  -- one code point is written
+  pub left-char : (v n : ℕ) → CharHere line at v n → Left old (set row k v) line (at + n) (k + 1)
+  left-char v n c = record {
+    here = c .fits;
+    rest = c .rest;
+    room = omega (arith, f .room, ap length (c .next), length-set row k v);
+    long = length-set row k v ∙ f .long;
+    same = f .same ∙ rw (c .next, add-one k);
+  }
+
+  pub char-fits : (v n : ℕ) → CharHere line at v n → k < length row
+  char-fits v n c = omega (arith, f .room, ap length (c .next))
+
+  -- nothing is left
+  pub left-none : length line ≤ at → row ≡ sets old 0 (points line)
+  unfolding points
+  left-none h = sym (f .same ∙ ap (λ (l : List ℕ). sets row k (points l)) (drop-of-length-le line {i = at} h))

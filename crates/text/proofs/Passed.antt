@@ -1,0 +1,144 @@
+-- Bytes below 80 are code points of their own, and E2 with two bytes 10xxxxxx is one: passing them leaves it open whether all is valid.
+-- And valid UTF-8 has as many code points as bytes that begin one.
+use mathlib.Core.Path.{_≡_, refl, ap, sym, _∙_}
+use mathlib.Core.Bool.{Bool, true, false}
+use mathlib.Core.List.{List, [], _∷_, _++_}
+use Prim.Native.Nat.{ℕ, suc, zero, _+_, _-_, _/_, _%_, _≤_, _<_}
+use native.Mathlib.Nat.{not-suc-le-zero}
+use native.Mathlib.Numerals.{add-one}
+use native.Mathlib.Omega.{arith}
+use lib.ListN.{length, getD, take, drop, length-append, length-drop, take-append-drop, drop-of-length-le}
+use lib.Seq.{drop-cons}
+use borrow.Author.Tests.{le-leb, lt-leb}
+use Rattle.rules.specs.Base.{pick}
+use Rattle.rules.specs.Utf8.{tail, span, valid, points, utf8, more}
+use Rattle.rules.proofs.Chars.{following-00, following-E1, valid-one, valid-three, tail-in}
+use Rattle.rules.proofs.Codec.{Form, form, one, two, three, four}
+use Rattle.rules.proofs.FirstChar.{FirstChar, first-char}
+use Rattle.text.specs.Within.{Within}
+use Rattle.text.specs.Passed.{Passed, beginsOne, begun}
+
+module _ (s : List ℕ) where
+  pub passed-none : (a : ℕ) → a ≤ length s → Passed s a a
+  passed-none a h = record { onward = omega arith; within = h; same = refl }
+
+  pub passed-join : (a m e : ℕ) → Passed s a m → Passed s m e → Passed s a e
+  passed-join a m e p q = record { onward = omega (arith, p .onward, q .onward); within = q .within; same = p .same ∙ q .same }
+
+  pub passed-one : (a : ℕ) → a < length s → getD s a 0 < 0x80 → Passed s a (a + 1)
+  passed-one a h l = record {
+    onward = omega arith;
+    within = omega arith;
+    same = ap valid (drop-cons s a 0 h) ∙ valid-one (getD s a 0) (drop (suc a) s) (following-00 (getD s a 0) (omega arith)) ∙ rw add-one;
+  }
+
+  -- a run of bytes below 80
+  pub passed-low : (a n : ℕ) → a + n ≤ length s → Within s 0 0x7F a (a + n) → Passed s a (a + n)
+  passed-low a zero h w = let e : a + 0 ≡ a = omega arith in rw e (passed-none a (omega arith))
+  passed-low a (suc n) h w =
+      let e : a + suc n ≡ a + 1 + n = omega arith in
+      rw e
+      (passed-join a (a + 1) (a + 1 + n) (passed-one a (omega arith) (omega (arith, w a (omega arith) (omega arith) .1)))
+      (passed-low (a + 1) n (omega arith) (λ k l r. w k (omega arith) (omega arith))))
+
+  pub passed-run : (a e : ℕ) → a ≤ e → e ≤ length s → Within s 0 0x7F a e → Passed s a e
+  passed-run a e h k w = let z : a + (e - a) ≡ e = omega arith in rw (← z) (passed-low a (e - a) (omega arith) (rw z w))
+
+  pub passed-three : (a : ℕ) → a + 3 ≤ length s → getD s a 0 ≡ 0xE2 → (0x80 ≤ getD s (a + 1) 0) × (getD s (a + 1) 0 ≤ 0xBF)
+      → (0x80 ≤ getD s (a + 2) 0) × (getD s (a + 2) 0 ≤ 0xBF) → Passed s a (a + 3)
+  passed-three a h e p q =
+      let z : suc a ≡ a + 1 = omega arith in
+      let y : suc (a + 1) ≡ a + 2 = omega arith in
+      let x : suc (a + 2) ≡ a + 3 = omega arith in
+      record {
+        onward = omega arith;
+        within = h;
+        same =
+            ap valid (drop-cons s a 0 (omega arith) ∙ rw (z, drop-cons s (a + 1) 0 (omega arith), y, drop-cons s (a + 2) 0 (omega arith), x))
+            ∙ valid-three (getD s a 0) (getD s (a + 1) 0) (getD s (a + 2) 0) (drop (a + 3) s) tail (following-E1 (getD s a 0) (omega arith) (omega arith))
+            (tail-in (getD s (a + 1) 0) (p .0) (p .1)) (tail-in (getD s (a + 2) 0) (q .0) (q .1));
+      }
+
+-- ---- bytes that begin a code point
+pub begins-low : (b : ℕ) → b < 0x80 → beginsOne b ≡ 1
+unfolding beginsOne tail span pick
+begins-low b h = rw (lt-leb 0x80 b h)
+
+pub begins-high : (b : ℕ) → 0xC0 ≤ b → beginsOne b ≡ 1
+unfolding beginsOne tail span pick
+begins-high b h = rw (le-leb 0x80 b (omega arith), lt-leb b 0xBF (omega arith))
+
+pub begins-not : (b : ℕ) → 0x80 ≤ b → b ≤ 0xBF → beginsOne b ≡ 0
+unfolding beginsOne pick
+begins-not b h k = rw (tail-in b h k)
+
+begun-append : (l k : List ℕ) → begun (l ++ k) ≡ begun l + begun k
+unfolding begun
+begun-append [] k = omega arith
+begun-append (b ∷ l) k = omega (arith, begun-append l k)
+
+begun-utf8 : (v : ℕ) → v < 0x200000 → begun (utf8 v) ≡ 1
+unfolding begun
+begun-utf8 v h = go (form v)
+  where
+    go : Form v → begun (utf8 v) ≡ 1
+    go (one a q) = rw q (omega (arith, begins-low v a))
+    go (two a b q) = rw q (omega (arith, begins-high (0xC0 + v / 64) (omega arith), begins-not (0x80 + v % 64) (omega arith) (omega arith)))
+    go (three a b q) =
+        rw q
+        (omega (
+          arith,
+          begins-high (0xE0 + v / 4096) (omega arith),
+          begins-not (0x80 + v / 64 % 64) (omega arith) (omega arith),
+          begins-not (0x80 + v % 64) (omega arith) (omega arith),
+        ))
+    go (four a q) =
+        rw q
+        (omega (
+          arith,
+          begins-high (0xF0 + v / 262144) (omega arith),
+          begins-not (0x80 + v / 4096 % 64) (omega arith) (omega arith),
+          begins-not (0x80 + v / 64 % 64) (omega arith) (omega arith),
+          begins-not (0x80 + v % 64) (omega arith) (omega arith),
+        ))
+
+begun-step : (n : ℕ) → ((s : List ℕ) → length s ≤ n → valid s ≡ true → begun s ≡ length (points s))
+    → (s : List ℕ) → length s ≤ suc n → valid s ≡ true → begun s ≡ length (points s)
+unfolding begun points
+begun-step n ih [] h v = refl
+begun-step n ih (b ∷ s) h v =
+    let f = first-char (b ∷ s) v (omega arith) in
+    let k = more b + 1 in
+    let m = ap length (f .next) in
+    let e : begun (b ∷ s) ≡ begun (take k (b ∷ s)) + begun (drop k (b ∷ s)) = ap begun (sym (take-append-drop k (b ∷ s))) ∙ begun-append (take k (b ∷ s)) (drop k (b ∷ s)) in
+    let t : begun (take k (b ∷ s)) ≡ 1 = ap begun (f .bytes) ∙ begun-utf8 _ (omega (arith, f .scalar .below)) in
+    omega (arith, e, t, ih (drop k (b ∷ s)) (omega (arith, length-drop k (b ∷ s))) (f .rest))
+
+begun-none : (s : List ℕ) → length s ≤ 0 → begun s ≡ length (points s)
+unfolding begun points
+begun-none [] h = refl
+begun-none (b ∷ s) h = absurd (omega arith)
+
+begun-within : (n : ℕ) (s : List ℕ) → length s ≤ n → valid s ≡ true → begun s ≡ length (points s)
+begun-within zero s h v = begun-none s h
+begun-within (suc n) s h v = begun-step n (begun-within n) s h v
+
+pub begun-points : (s : List ℕ) → valid s ≡ true → begun s ≡ length (points s)
+begun-points s v = begun-within (length s) s (omega arith) v
+
+pub begins-most : (b : ℕ) → beginsOne b ≤ 1
+unfolding beginsOne pick
+begins-most b = go (tail b)
+  where
+    go : (t : Bool) → pick t 0 1 ≤ 1
+    go true = omega arith
+    go false = omega arith
+
+module _ (s : List ℕ) (k : ℕ) where
+  pub begun-more : k < length s → begun (drop k s) ≡ beginsOne (getD s k 0) + begun (drop (k + 1) s)
+  unfolding begun
+  begun-more h = rw (add-one, drop-cons s k 0 h)
+
+  pub begun-end : length s ≤ k → begun (drop k s) ≡ 0
+  unfolding begun
+  begun-end h = rw (drop-of-length-le s {i = k} h)

@@ -1,0 +1,31 @@
+-- Runs within bounds, one after another, are one run.
+use mathlib.Core.Path.{_≡_}
+use mathlib.Core.List.{List}
+use Prim.Native.Nat.{ℕ, suc, _+_, _*_, _≤_, _<_}
+use native.Mathlib.Omega.{arith}
+use native.Mathlib.Decide.{decLe}
+use lib.ListN.{getD}
+use Rattle.text.specs.Within.{Within}
+
+module _ (s : List ℕ) (low high : ℕ) where
+  pub within-none : (a : ℕ) → Within s low high a a
+  within-none a k h l = absurd (omega arith)
+
+  pub within-join : (a m e : ℕ) → Within s low high a m → Within s low high m e → Within s low high a e
+  within-join a m e p q k h l = elim (decLe (suc k) m) [ yes b ↦ p k h b | no b ↦ q k (omega arith) l ]
+
+  -- four facts are a run of four, and four runs of four a run of sixteen
+  pub within-one : (a b : ℕ) → b ≡ getD s a 0 → (low ≤ b) × (b ≤ high) → Within s low high a (a + 1)
+  within-one a b e p k h l = (let z : k ≡ a = omega arith in rw (z, ← e) p)
+
+  pub within-four : (a m n : ℕ) → Within s low high a (a + m) → Within s low high (a + m) (a + m + m) → Within s low high (a + 2 * m) (a + 2 * m + m)
+      → Within s low high (a + 3 * m) (a + 3 * m + m) → n ≡ 4 * m → Within s low high a (a + n)
+  within-four a m n p q r t e k h l =
+      elim (decLe (suc k) (a + m)) [
+        | yes b ↦ p k h b
+        | no b ↦
+            elim (decLe (suc k) (a + m + m)) [
+              | yes c ↦ q k (omega arith) c
+              | no c ↦ elim (decLe (suc k) (a + 2 * m + m)) [ yes d ↦ r k (omega arith) d | no d ↦ t k (omega arith) (omega arith) ]
+            ]
+      ]

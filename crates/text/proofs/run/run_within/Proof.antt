@@ -1,0 +1,57 @@
+-- Sixteen bytes more join the run.
+use Prim.Native.Nat.{_+_, _≤_, _-_}
+use native.Mathlib.Omega.{arith}
+use lib.ListN.{length}
+use Rattle.text.specs.Within.{Within}
+use Rattle.text.proofs.Within.{within-none, within-join}
+use borrow.Author.Needs.{needs}
+use Rattle.text.proofs.run.run_within.Statement.{statement}
+use Rattle.text.proofs.run.run_within.Tie as tie
+
+abbrev Inv-loop : tie.InvT-loop
+Inv-loop s from low high at₀ at = (from ≤ at) × (at ≤ length s) × Within s low high from at
+
+abbrev μ-loop : tie.MeasureT-loop
+μ-loop s from low high at₀ at = length s - at
+
+loop-holds : tie.Need-loop-holds Inv-loop μ-loop
+loop-holds c = (let a = c .before .args in (search needs, search needs, within-none (a .s .now) (a .low) (a .high) (a .from)))
+
+sub-loop : tie.Need-sub-loop Inv-loop μ-loop
+sub-loop c = search needs
+
+sixteen-within-requires : tie.Need-sixteen-within-requires Inv-loop μ-loop
+sixteen-within-requires c κs = search needs
+
+returns : tie.Need-returns Inv-loop μ-loop
+returns c = c .before .before .before .loop .inv
+
+add-at : tie.Need-add-at Inv-loop μ-loop
+add-at c = search needs
+
+loop-less : tie.Need-loop-less Inv-loop μ-loop
+loop-less c = search needs
+
+loop-again : tie.Need-loop-again Inv-loop μ-loop
+loop-again c =
+    let l = c .before .before .before .loop in
+    let a = c .before .before .before .before .before .args in
+    (omega arith, omega arith, within-join (a .s .now) (a .low) (a .high) (a .from) (l .at) (l .at + 16) (l .inv .2) (c .before .sixteen-within .ensures (c .if1 .taken)))
+
+returns-2 : tie.Need-returns-2 Inv-loop μ-loop
+returns-2 c = c .before .loop .inv
+
+pub run-within-spec : {M : Type 1} → statement M
+run-within-spec =
+    tie.close
+    (tie.spec
+    Inv-loop
+    μ-loop
+    loop-holds
+    sub-loop
+    sixteen-within-requires
+    add-at
+    loop-less
+    loop-again
+    returns
+    returns-2)

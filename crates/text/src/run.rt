@@ -1,0 +1,70 @@
+// Runs of bytes within bounds, sixteen at a time, which the compiler does in wide registers.
+ghost use mathlib.Core.Path.{_≡_};
+ghost use mathlib.Core.Bool.{true};
+ghost use Prim.Native.Nat.{_+_, _≤_};
+ghost use lib.ListN.{length};
+ghost use Rattle.text.specs.Within.{Within};
+
+// All four hold, if it says so.
+fn all(a: bool, b: bool, c: bool, d: bool) -> bool
+    ensures { λ r. ⌜ (r ≡ true → (a ≡ true) × (b ≡ true) × (c ≡ true) × (d ≡ true)) ⌝ }
+{
+    if a {
+        if b {
+            if c {
+                return d;
+            }
+        }
+    }
+    false
+}
+
+// A byte lies within bounds.
+pub fn lies(b: u8, low: u8, high: u8) -> bool
+    ensures { λ r. ⌜ (r ≡ true → (low ≤ b) × (b ≤ high)) ⌝ }
+{
+    if low <= b {
+        return b <= high;
+    }
+    false
+}
+
+// The four bytes from `at` on lie within bounds, if it says so.
+fn four_within(s: &[u8], at: usize, low: u8, high: u8) -> bool
+    requires { ⌜ at + 4 ≤ length (now s) ⌝ }
+    ensures { λ r. ⌜ (r ≡ true → Within (now (s .entry)) low high at (at + 4)) ⌝ }
+{
+    let a = lies(s[at], low, high);
+    let b = lies(s[at + 1], low, high);
+    let c = lies(s[at + 2], low, high);
+    let d = lies(s[at + 3], low, high);
+    all(a, b, c, d)
+}
+
+// The sixteen bytes from `at` on lie within bounds, if it says so.
+fn sixteen_within(s: &[u8], at: usize, low: u8, high: u8) -> bool
+    requires { ⌜ at + 16 ≤ length (now s) ⌝ }
+    ensures { λ r. ⌜ (r ≡ true → Within (now (s .entry)) low high at (at + 16)) ⌝ }
+{
+    let a = four_within(s, at, low, high);
+    let b = four_within(s, at + 4, low, high);
+    let c = four_within(s, at + 8, low, high);
+    let d = four_within(s, at + 12, low, high);
+    all(a, b, c, d)
+}
+
+// A place up to which all bytes from `from` on lie within bounds: whole sixteens are passed, and the run may go on.
+pub fn run_within(s: &[u8], from: usize, low: u8, high: u8) -> usize
+    requires { ⌜ from ≤ length (now s) ⌝ }
+    ensures { λ r. ⌜ (from ≤ r) × (r ≤ length (now (s .entry))) × Within (now (s .entry)) low high from r ⌝ }
+{
+    let mut at = from;
+    while 16 <= s.len() - at {
+        if sixteen_within(s, at, low, high) {
+            at += 16;
+        } else {
+            return at;
+        }
+    }
+    at
+}
