@@ -9,3 +9,4 @@ pub mod Trims
 pub mod Bytes
 pub mod Blocks
 pub mod Labels
+pub mod Rows

@@ -5,6 +5,7 @@ mod line;
 mod look;
 mod outside;
 mod part;
+mod row;
 mod side;
 
 pub use block::Block;
