@@ -11,6 +11,10 @@ ghost use Rattle.rules.proofs.Candidate as rule;
 ghost use Rattle.sight.specs.Seen.{seen};
 use crate::look::at;
 use crate::part::line_end;
+use crate::row::on_row;
+use crate::row::row_at;
+use crate::row::row_bytes;
+use crate::row::write_row;
 
 // The bytes of n marks from (x, y).
 fn marks_bytes(cells: &[u32], width: u32, height: u32, x: u32, y: u32, n: u32) -> usize
@@ -31,6 +35,9 @@ pub fn line_bytes(cells: &[u32], width: u32, height: u32, x: u32, y: u32, n: u32
     requires { ⌜ (width * height ≤ length (now cells)) × (x + n ≤ 4294967295) ⌝ }
     ensures { λ r. ⌜ r ≡ length (lineAt (seen (now (cells .entry)) width height) x y n) ⌝ }
 {
+    if on_row(width, height, x, y, n) {
+        return row_bytes(row_at(cells, width, height, x, y, n));
+    }
     let end = line_end(cells, width, height, x, y, n);
     marks_bytes(cells, width, height, x, y, end)
 }
@@ -91,6 +98,9 @@ pub fn write_line(
     ensures { λ r. ⌜ (r ≡ from + length (lineAt (seen (now (cells .entry)) width height) x y n))
         × (now (out .exit) ≡ sets (now (out .entry)) from (lineAt (seen (now (cells .entry)) width height) x y n)) ⌝ }
 {
+    if on_row(width, height, x, y, n) {
+        return write_row(row_at(cells, width, height, x, y, n), out, from);
+    }
     let end = line_end(cells, width, height, x, y, n);
     put_marks(cells, width, height, x, y, end, out, from)
 }
