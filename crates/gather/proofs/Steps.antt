@@ -53,7 +53,7 @@ module _ (cells : List ℕ) (w h : ℕ) where
         → (bad ≡ false → Gathered cells w h nodes bytes table middle lines most) × (bad ≡ true → Misfit cells w h)
     answer-all n e p = (λ g. all-gathered cells w h (rw (before-all cells w h n e) at p), λ g. true-false (sym g ∙ f))
 
-module _ {cells cx band cy : List ℕ} {w h : ℕ} (known : Known cells w h cx band cy) (i j : ℕ) where
+module _ {cells cx band cy : List ℕ} {w h : ℕ} (known : Known cells w h cx band cy) {i j : ℕ} where
   module _
       (column : j < outside (seen cells w h) w h .nc)
       (row : i < outside (seen cells w h) w h .nr)
