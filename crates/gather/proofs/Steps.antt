@@ -22,7 +22,7 @@ use Rattle.gather.proofs.Growing.{none-yet, one-more, all-gathered}
 use Rattle.gather.proofs.Titles.{judged}
 use Rattle.gather.proofs.Judged.{seen-here, lines-here, longest-here, fits, refused, too-many}
 
--- a constant is not the other
+-- true is not false
 true-false : {A : Type 0} → true ≡ false → A
 true-false e = let z : _≡_ {A = ℕ} 0 1 = cc in absurd (omega arith)
 
