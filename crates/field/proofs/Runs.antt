@@ -32,6 +32,28 @@ module _ (f g : ℕ → ℕ) where
   pub run-stop : (k e : ℕ) → k < e → (f k ≡ g k → ⊥) → alike f g k e ≡ false
   run-stop k e h s = rw (alike-first f g k e h, ne-eqb (f k) (g k) s)
 
+  -- four at once
+  pub run-four : (k : ℕ)
+      → alike f g k (k + 4)
+      ≡ (((eqb (f k) (g k) && eqb (f (k + 1)) (g (k + 1))) && eqb (f (k + 2)) (g (k + 2))) && eqb (f (k + 3)) (g (k + 3)))
+  run-four k =
+      rw (
+        alike-split f g k (k + 3) (k + 4) (omega arith) (omega arith),
+        alike-split f g k (k + 2) (k + 3) (omega arith) (omega arith),
+        alike-split f g k (k + 1) (k + 2) (omega arith) (omega arith),
+        alike-one f g k (k + 1) (omega arith),
+        alike-one f g (k + 1) (k + 2) (omega arith),
+        alike-one f g (k + 2) (k + 3) (omega arith),
+        alike-one f g (k + 3) (k + 4) (omega arith),
+      )
+
+  -- and eight
+  pub run-eight : {p q : Bool} (k e : ℕ) → 8 ≤ e - k → p ≡ alike f g k (k + 4) → q ≡ alike f g (k + 4) (k + 4 + 4)
+      → alike f g k e ≡ ((p && q) && alike f g (k + 8) e)
+  run-eight k e h s t =
+      let n : k + 4 + 4 ≡ k + 8 = omega arith in
+      alike-split f g k (k + 8) e (omega arith) (omega arith) ∙ rw (alike-split f g k (k + 4) (k + 8) (omega arith) (omega arith), s, t, n)
+
 -- the cells of a run are the marks of a row, which begins at n
 every-shift : (t : ℕ → Bool) (n a m : ℕ) → every t (from (n + a) m) ≡ every (λ x. t (n + x)) (from a m)
 unfolding every from

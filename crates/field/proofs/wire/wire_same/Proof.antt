@@ -1,3 +1,4 @@
+-- Each return is one case of the row's marks: the two at the line, and the two runs.
 use mathlib.Core.Path.{_≡_, sym, _∙_}
 use mathlib.Core.Bool.{_&&_}
 use native.Mathlib.Omega.{arith}
