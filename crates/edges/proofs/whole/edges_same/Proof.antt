@@ -1,5 +1,4 @@
 -- The plan's numbers say where its columns and rows are; then there are two pieces, rows 0 to 2 and what is left of the columns.
-use mathlib.Core.Path.{_≡_}
 use native.Mathlib.Omega.{arith}
 use lib.ListN.{length}
 use Rattle.rules.specs.Levels.{view}
