@@ -1,3 +1,4 @@
 pub mod Ones
 pub mod Wanted
 pub mod FirstBytes
+pub mod Plain

@@ -2,7 +2,7 @@
 ghost use mathlib.Core.Path.{_≡_};
 ghost use mathlib.Core.Bool.{true, false};
 ghost use mathlib.Core.List.{List, _∷_};
-ghost use Prim.Native.Nat.{ℕ, _+_, _%_, _<_, _≤_};
+ghost use Prim.Native.Nat.{ℕ, _+_, _%_, _<_, _≤_, max};
 ghost use lib.ListN.{length, getD};
 ghost use Rattle.rules.specs.Utf8.{following, continues, points, more};
 ghost use Rattle.rules.specs.Utf8 as rule;
@@ -148,8 +148,31 @@ fn step(w: Wanted, b: u8) -> Wanted
     }
 }
 
-// All of s is valid UTF-8.
-pub fn valid(s: &[u8]) -> bool
+// The greater of two bytes.
+fn higher(a: u8, b: u8) -> u8
+    ensures { λ r. ⌜ r ≡ max a b ⌝ }
+{
+    if a < b {
+        return b;
+    }
+    a
+}
+
+// No byte is greater. (A loop without a branch, which the compiler does many bytes at a time.)
+fn highest(s: &[u8]) -> u8
+    ensures { λ r. ⌜ ((k : ℕ) → k < length (now (s .entry)) → getD (now (s .entry)) k 0 ≤ r) ⌝ }
+{
+    let mut most: u8 = 0;
+    let mut at = 0;
+    while at < s.len() {
+        most = higher(most, s[at]);
+        at += 1;
+    }
+    most
+}
+
+// All of s is valid UTF-8, byte by byte.
+fn steps(s: &[u8]) -> bool
     ensures { λ r. ⌜ r ≡ rule.valid (now (s .entry)) ⌝ }
 {
     let mut w = Wanted {
@@ -163,6 +186,16 @@ pub fn valid(s: &[u8]) -> bool
         at += 1;
     }
     w.bytes == 0
+}
+
+// All of s is valid UTF-8: at sight where no byte is above 7F.
+pub fn valid(s: &[u8]) -> bool
+    ensures { λ r. ⌜ r ≡ rule.valid (now (s .entry)) ⌝ }
+{
+    if highest(s) < 0x80 {
+        return true;
+    }
+    steps(s)
 }
 
 // A code point and the number of its bytes.

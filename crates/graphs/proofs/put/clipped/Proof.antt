@@ -4,8 +4,8 @@ use mathlib.Core.List.{[], _∷_}
 use Prim.Native.Nat.{_≤_, _+_, _-_}
 use lib.ListN.{length, getD, drop, drop-of-length-le}
 use Rattle.graphs.proofs.Puts.{Left, all, step, fits, end, one}
-use Rattle.graphs.proofs.put.bytes.Statement.{statement}
-use Rattle.graphs.proofs.put.bytes.Tie as tie
+use Rattle.graphs.proofs.put.clipped.Statement.{statement}
+use Rattle.graphs.proofs.put.clipped.Tie as tie
 
 abbrev Inv-loop : tie.InvT-loop
 Inv-loop out₀ at s to₀ i₀ out to i = (i ≤ length s) × Left s at out₀ (drop i s) to out
@@ -48,8 +48,8 @@ returns c =
     let s = c .before .before .before .before .args .s .now in
     end (l .inv .1) (drop-of-length-le s {i = l .i} (search needs))
 
-pub bytes-spec : {M : Type 1} → statement M
-bytes-spec =
+pub clipped-spec : {M : Type 1} → statement M
+clipped-spec =
     tie.close
     (tie.spec
     Inv-loop
