@@ -27,8 +27,9 @@ fenced-shown f t h = ap (λ g. concat (formOf g .written) t) h
 
 -- byte by byte as it is
 singles : (t : List ℕ) → concat (λ b. b ∷ []) t ≡ t
-singles [] = unfold concat in refl
-singles (b ∷ t) = unfold concat in ap (λ (l : List ℕ). b ∷ l) (singles t)
+unfolding concat
+singles [] = refl
+singles (b ∷ t) = ap (λ (l : List ℕ). b ∷ l) (singles t)
 
 pub bare-shown : (f : Bool) (t : List ℕ) → f ≡ false → concat (formOf f .written) t ≡ t
 bare-shown f t h = ap (λ g. concat (formOf g .written) t) h ∙ singles t
