@@ -1,7 +1,7 @@
 -- What the two forms differ in, case by case: how a byte of a title is written, and what stands between a name's numbers.
-use mathlib.Core.Path.{_≡_, ap}
+use mathlib.Core.Path.{_≡_, refl, ap, _∙_}
 use mathlib.Core.Bool.{Bool, true, false}
-use mathlib.Core.List.{[], _∷_}
+use mathlib.Core.List.{List, [], _∷_}
 use Prim.Native.Nat.{ℕ}
 use borrow.Author.Tests.{eq-eqb, ne-eqb}
 use Rattle.rules.specs.Base.{pick, concat}
@@ -22,11 +22,17 @@ pub other : (b : ℕ) → (b ≡ 34 → ⊥) → (b ≡ 10 → ⊥) → escaped 
 unfolding escaped pick
 other b g h = rw (ne-eqb b 0x22 g, ne-eqb b 0x0A h)
 
-pub fenced-written : (f : Bool) (b : ℕ) → f ≡ true → formOf f .written b ≡ escaped b
-fenced-written f b h = ap (λ g. formOf g .written b) h
+pub fenced-shown : (f : Bool) (t : List ℕ) → f ≡ true → concat (formOf f .written) t ≡ concat escaped t
+fenced-shown f t h = ap (λ g. concat (formOf g .written) t) h
 
-pub bare-written : (f : Bool) (b : ℕ) → f ≡ false → formOf f .written b ≡ b ∷ []
-bare-written f b h = ap (λ g. formOf g .written b) h
+-- byte by byte as it is
+singles : (t : List ℕ) → concat (λ b. b ∷ []) t ≡ t
+unfolding concat
+singles [] = refl
+singles (b ∷ t) = ap (λ (l : List ℕ). b ∷ l) (singles t)
+
+pub bare-shown : (f : Bool) (t : List ℕ) → f ≡ false → concat (formOf f .written) t ≡ t
+bare-shown f t h = ap (λ g. concat (formOf g .written) t) h ∙ singles t
 
 pub fenced-between : (f : Bool) → f ≡ true → formOf f .between ≡ 95 ∷ []
 unfolding pick bytes concat letters utf8

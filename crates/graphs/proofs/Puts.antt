@@ -7,7 +7,7 @@ use native.Mathlib.Nat.{add-zero}
 use native.Mathlib.Numerals.{add-one}
 use native.Mathlib.Omega.{arith}
 use lib.ListN.{length, set, getD, drop, length-append, drop-of-length-le}
-use lib.Seq.{sets, length-sets, drop-cons}
+use lib.Seq.{sets, length-sets, drop-cons, set-out}
 use Rattle.rules.specs.Base.{concat}
 use Rattle.rules.proofs.Lists.{sets-append}
 use Rattle.graphs.specs.Put.{Put}
@@ -19,6 +19,14 @@ idle at l = record { place = sym (add-zero at); holds = refl }
 -- as much memory as before
 pub put-length : {w : List ℕ} {at : ℕ} {l m : List ℕ} {to : ℕ} → Put w at l m to → length m ≡ length l
 put-length {w} {at} {l} p = ap length (p .holds) ∙ length-sets l at w
+
+-- nothing has room
+pub dropped : (w : List ℕ) (at : ℕ) (l : List ℕ) → length l ≤ at → Put w at l l (at + length w)
+dropped w at l h = record { place = refl; holds = sym (past w at l h) }
+  where
+    past : (w : List ℕ) (at : ℕ) (l : List ℕ) → length l ≤ at → sets l at w ≡ l
+    past [] at l h = refl
+    past (x ∷ w) at l h = rw (set-out l at x h) (past w (suc at) l (omega arith))
 
 -- a piece and the next
 pub then : {a b : List ℕ} {at : ℕ} {l m n : List ℕ} {p q : ℕ} → Put a at l m p → Put b p m n q → Put (a ++ b) at l n q

@@ -1,7 +1,9 @@
 // Bytes put one after another. What has no room is only counted: a store past the end is dropped, by `set` and `sets` as by the code.
 ghost use mathlib.Core.List.{[], _∷_};
-ghost use Prim.Native.Nat.{_+_, _<_, _^_};
+ghost use mathlib.Core.Path.{_≡_};
+ghost use Prim.Native.Nat.{_+_, _<_, _≤_, _^_};
 ghost use lib.ListN.{length};
+ghost use lib.Seq.{sets};
 ghost use Rattle.rules.specs.Base.{concat};
 ghost use Rattle.rules.specs.Lines.{digits};
 ghost use Rattle.rules.specs.Graph.{escaped, name as nameOf};
@@ -20,8 +22,20 @@ pub fn byte(out: &mut [u8], at: usize, b: u8) -> usize
     at + 1
 }
 
-// Puts all of s.
-pub fn bytes(out: &mut [u8], at: usize, s: &[u8]) -> usize
+// Puts all of s where all of it has room: no test for each byte.
+fn fitting(out: &mut [u8], at: usize, s: &[u8])
+    requires { ⌜ at + length (now s) ≤ length (now out) ⌝ }
+    ensures { λ _. ⌜ now (out .exit) ≡ sets (now (out .entry)) at (now (s .entry)) ⌝ }
+{
+    let mut i = 0;
+    while i < s.len() {
+        out[at + i] = s[i];
+        i += 1;
+    }
+}
+
+// Puts all of s where some of it may have no room.
+fn clipped(out: &mut [u8], at: usize, s: &[u8]) -> usize
     requires { ⌜ at + length (now s) < 2 ^ 64 ⌝ }
     ensures { λ r. ⌜ Put (now (s .entry)) at (now (out .entry)) (now (out .exit)) r ⌝ }
 {
@@ -32,6 +46,21 @@ pub fn bytes(out: &mut [u8], at: usize, s: &[u8]) -> usize
         i += 1;
     }
     to
+}
+
+// Puts all of s.
+pub fn bytes(out: &mut [u8], at: usize, s: &[u8]) -> usize
+    requires { ⌜ at + length (now s) < 2 ^ 64 ⌝ }
+    ensures { λ r. ⌜ Put (now (s .entry)) at (now (out .entry)) (now (out .exit)) r ⌝ }
+{
+    if out.len() <= at {
+        return at + s.len();
+    }
+    if s.len() <= out.len() - at {
+        fitting(out, at, s);
+        return at + s.len();
+    }
+    clipped(out, at, s)
 }
 
 // Puts b as it stands in a fenced label.
@@ -48,15 +77,18 @@ pub fn escape(out: &mut [u8], at: usize, b: u8) -> usize
     byte(out, at, b)
 }
 
-// Puts a byte of a title as it stands in a label of the form.
-pub fn written(out: &mut [u8], at: usize, b: u8, fenced: bool) -> usize
-    requires { ⌜ at + length (formOf fenced .written b) < 2 ^ 64 ⌝ }
-    ensures { λ r. ⌜ Put (formOf fenced .written b) at (now (out .entry)) (now (out .exit)) r ⌝ }
+// Puts a title as it stands in a fenced label.
+fn escapes(out: &mut [u8], at: usize, s: &[u8]) -> usize
+    requires { ⌜ at + length (concat escaped (now s)) < 2 ^ 64 ⌝ }
+    ensures { λ r. ⌜ Put (concat escaped (now (s .entry))) at (now (out .entry)) (now (out .exit)) r ⌝ }
 {
-    if fenced {
-        return escape(out, at, b);
+    let mut to = at;
+    let mut i = 0;
+    while i < s.len() {
+        to = escape(out, to, s[i]);
+        i += 1;
     }
-    byte(out, at, b)
+    to
 }
 
 // Puts a title as it stands in a label of the form.
@@ -64,13 +96,10 @@ pub fn shown(out: &mut [u8], at: usize, s: &[u8], fenced: bool) -> usize
     requires { ⌜ at + length (concat (formOf fenced .written) (now s)) < 2 ^ 64 ⌝ }
     ensures { λ r. ⌜ Put (concat (formOf fenced .written) (now (s .entry))) at (now (out .entry)) (now (out .exit)) r ⌝ }
 {
-    let mut to = at;
-    let mut i = 0;
-    while i < s.len() {
-        to = written(out, to, s[i], fenced);
-        i += 1;
+    if fenced {
+        return escapes(out, at, s);
     }
-    to
+    bytes(out, at, s)
 }
 
 // Puts what stands between the numbers of a name.

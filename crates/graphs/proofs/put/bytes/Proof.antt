@@ -1,64 +1,53 @@
--- The loop's invariant: what is left to put is the rest of s.
+-- Past the end nothing is stored; where all fits, all is; else byte by byte.
+use mathlib.Core.Path.{refl}
+use Rattle.graphs.proofs.Puts.{dropped}
 use borrow.Author.Needs.{needs}
-use mathlib.Core.List.{[], _∷_}
-use Prim.Native.Nat.{_≤_, _+_, _-_}
-use lib.ListN.{length, getD, drop, drop-of-length-le}
-use Rattle.graphs.proofs.Puts.{Left, all, step, fits, end, one}
 use Rattle.graphs.proofs.put.bytes.Statement.{statement}
 use Rattle.graphs.proofs.put.bytes.Tie as tie
 
-abbrev Inv-loop : tie.InvT-loop
-Inv-loop out₀ at s to₀ i₀ out to i = (i ≤ length s) × Left s at out₀ (drop i s) to out
+add-result : tie.Need-add-result
+add-result c = search needs
 
-abbrev μ-loop : tie.MeasureT-loop
-μ-loop out₀ at s to₀ i₀ out to i = length s - i
+returns : tie.Need-returns
+returns c =
+    let s = c .before .before .before in
+    dropped (s .args .s .now) (s .args .at) (s .args .out .now) (search needs)
 
-loop-holds : tie.Need-loop-holds Inv-loop μ-loop
-loop-holds c = (search needs, all)
+sub-if2 : tie.Need-sub-if2
+sub-if2 c = search needs
 
-shared-slice-read-byte : tie.Need-shared-slice-read-byte Inv-loop μ-loop
-shared-slice-read-byte c = search needs
+fitting-requires : tie.Need-fitting-requires
+fitting-requires c κs = search needs
 
-byte-requires : tie.Need-byte-requires Inv-loop μ-loop
-byte-requires c κs =
-    let l = c .before .before .before .loop in
-    let s = c .before .before .before .before .before .before in
-    fits (getD (s .args .s .now) (l .i) 0 ∷ []) (drop (l .i + 1) (s .args .s .now)) (l .inv .1) (one (s .args .s .now) (l .i) (search needs)) (s .pre)
+add-result-2 : tie.Need-add-result-2
+add-result-2 c = search needs
 
-add-i : tie.Need-add-i Inv-loop μ-loop
-add-i c = search needs
-
-loop-less : tie.Need-loop-less Inv-loop μ-loop
-loop-less c = search needs
-
-loop-again : tie.Need-loop-again Inv-loop μ-loop
-loop-again c =
-    let l = c .before .before .before .before .before .before .loop in
-    let s = c .before .before .before .before .before .before .before .before .before .args .s .now in (
-      search needs,
-      step (getD s (l .i) 0 ∷ []) (drop (l .i + 1) s) (l .inv .1) (one s (l .i) (search needs)) (c .before .before .byte .ensures),
-    )
-
-same-length : tie.Need-same-length Inv-loop μ-loop
+same-length : tie.Need-same-length
 same-length c = search needs
 
-returns : tie.Need-returns Inv-loop μ-loop
-returns c =
-    let l = c .before .loop in
-    let s = c .before .before .before .before .args .s .now in
-    end (l .inv .1) (drop-of-length-le s {i = l .i} (search needs))
+returns-2 : tie.Need-returns-2
+returns-2 c = record { place = refl; holds = c .before .before .fitting .ensures }
+
+clipped-requires : tie.Need-clipped-requires
+clipped-requires c κs = search needs
+
+same-length-2 : tie.Need-same-length-2
+same-length-2 c = search needs
+
+returns-3 : tie.Need-returns-3
+returns-3 c = search needs
 
 pub bytes-spec : {M : Type 1} → statement M
 bytes-spec =
     tie.close
     (tie.spec
-    Inv-loop
-    μ-loop
-    loop-holds
-    shared-slice-read-byte
-    byte-requires
-    add-i
-    loop-less
-    loop-again
+    add-result
+    returns
+    sub-if2
+    fitting-requires
+    add-result-2
     same-length
-    returns)
+    returns-2
+    clipped-requires
+    same-length-2
+    returns-3)

@@ -1,0 +1,230 @@
+
+// ---- the race: the crate's code, which stands above, and this library, in one program on the same plans ----
+// Both answer first, and what they answer must be equal. Then they are timed in turn, round by round; a round is as many drawings as take
+// about half a millisecond, and the best round counts. Buffers are made once for each plan and are not cleared between drawings.
+use std::time::Instant;
+
+struct TreeFmtNode {
+    title: String,
+    children: Vec<TreeFmtNode>,
+}
+
+impl TreeFmtNode {
+    fn node_data(&self) -> TreeFmtNodeData<'_> {
+        TreeFmtNodeData(self.title.clone(), self.children.iter().collect())
+    }
+}
+
+#[link(name = "girthladder")]
+extern "C" {
+    fn girthladder_text(
+        table: *const u32, table_length: usize, titles: *const u8, titles_length: usize,
+        canvas: *mut u32, canvas_length: usize, out: *mut u8, out_length: usize, answer: *mut [u64; 5],
+    );
+    fn girthladder_dot(
+        table: *const u32, table_length: usize, titles: *const u8, titles_length: usize,
+        out: *mut u8, out_length: usize, answer: *mut [u64; 5],
+    );
+}
+
+type Pairs = Vec<(usize, String)>;
+
+fn grow(nodes: &Pairs, at: &mut usize) -> TreeFmtNode {
+    let (depth, title) = nodes[*at].clone();
+    *at += 1;
+    let mut children = vec![];
+    while *at < nodes.len() && nodes[*at].0 > depth {
+        children.push(grow(nodes, at));
+    }
+    TreeFmtNode { title, children }
+}
+
+// The crate's drawing or graph.
+fn theirs(tree: &TreeFmtNode, dot: bool) -> String {
+    let mut visitor = TreeFmtVisitor::default();
+    if dot {
+        visitor.display = TreeFmtVisitorDisplay::DisplayDot;
+    }
+    tree.traverse(&mut visitor);
+    format!("{visitor}")
+}
+
+// A plan as this library takes it, with the memory that is lent.
+struct Lent {
+    table: Vec<u32>,
+    titles: Vec<u8>,
+    canvas: Vec<u32>,
+    out: Vec<u8>,
+}
+
+impl Lent {
+    fn new(pairs: &Pairs) -> Lent {
+        let mut lent = Lent { table: vec![], titles: vec![], canvas: vec![], out: vec![] };
+        for (depth, title) in pairs {
+            lent.table.extend([*depth as u32, lent.titles.len() as u32, title.len() as u32]);
+            lent.titles.extend(title.bytes());
+        }
+        lent
+    }
+
+    fn text(&mut self) -> [u64; 5] {
+        let mut five = [0; 5];
+        unsafe {
+            girthladder_text(
+                self.table.as_ptr(), self.table.len(), self.titles.as_ptr(), self.titles.len(),
+                self.canvas.as_mut_ptr(), self.canvas.len(), self.out.as_mut_ptr(), self.out.len(), &mut five,
+            )
+        }
+        five
+    }
+
+    fn dot(&mut self) -> [u64; 5] {
+        let mut five = [0; 5];
+        unsafe {
+            girthladder_dot(
+                self.table.as_ptr(), self.table.len(), self.titles.as_ptr(), self.titles.len(),
+                self.out.as_mut_ptr(), self.out.len(), &mut five,
+            )
+        }
+        five
+    }
+}
+
+// Nanoseconds of the best and the middle round, for each of the runners in turn.
+fn race(runners: &mut [&mut dyn FnMut()], rounds: usize) -> Vec<(f64, f64)> {
+    let mut turns = vec![];
+    for run in runners.iter_mut() {
+        let mut n = 1;
+        loop {
+            let begun = Instant::now();
+            for _ in 0..n {
+                run();
+            }
+            let took = begun.elapsed().as_nanos();
+            if took > 500_000 || n > 1 << 20 {
+                break;
+            }
+            n = if took < 50_000 { n * 4 } else { n * 2 };
+        }
+        turns.push(n);
+    }
+    let mut times = vec![vec![]; runners.len()];
+    for _ in 0..rounds {
+        for (k, run) in runners.iter_mut().enumerate() {
+            let begun = Instant::now();
+            for _ in 0..turns[k] {
+                run();
+            }
+            times[k].push(begun.elapsed().as_nanos() as f64 / turns[k] as f64);
+        }
+    }
+    times
+        .into_iter()
+        .map(|mut t| {
+            t.sort_by(|a, b| a.partial_cmp(b).unwrap());
+            (t[0], t[t.len() / 2])
+        })
+        .collect()
+}
+
+fn plans() -> Vec<(&'static str, Pairs)> {
+    let own = |pairs: &[(usize, &str)]| pairs.iter().map(|&(d, t)| (d, t.to_string())).collect::<Pairs>();
+    let mut wide = vec![(0, "UNION".to_string())];
+    wide.extend((0..60).map(|k| (1, format!("READ part-{k}.csv"))));
+    let deep = (0..32).map(|k| (k, format!("FILTER\ndepth > {k}"))).collect();
+    // two below each down to depth 7, and one more leaf: each title has two lines, the longer of 139 bytes
+    let mut large: Pairs = vec![];
+    fn below(depth: usize, into: &mut Pairs) {
+        let k = into.len();
+        let mut line = format!("columns of step {k}:");
+        while line.len() < 139 {
+            line.push_str(&format!(" c{}", line.len() * 7 + k));
+        }
+        line.truncate(139);
+        into.push((depth, format!("SELECT {k}\n{line}")));
+        if depth < 7 {
+            below(depth + 1, into);
+            below(depth + 1, into);
+        }
+    }
+    below(0, &mut large);
+    large.push((1, "READ the rest".to_string()));
+    vec![
+        ("document 01's example", own(&[(0, "a"), (1, "b"), (1, "c")])),
+        (
+            "a query of 15 steps",
+            own(&[
+                (0, "SORT BY [σ]\ndescending"),
+                (1, "SELECT\n[station, μ, σ, Δτ]"),
+                (2, "FILTER\nσ > 0.5"),
+                (3, "AGGREGATE BY station\nμ = mean(λ)\nσ = std(λ)\nΔτ = max(t) - min(t)"),
+                (4, "LEFT JOIN ON\n[station, day]"),
+                (5, "FILTER\nλ is not null"),
+                (6, "WITH COLUMNS\nλ = 2π / k"),
+                (7, "READ waves.parquet\n3 of 12 columns"),
+                (5, "UNION"),
+                (6, "READ north.csv"),
+                (6, "READ south.csv"),
+                (6, "SLICE [0, 1000]"),
+                (7, "CACHE 1"),
+                (8, "FILTER\nβ ≥ 0 \"calm\" days"),
+                (9, "READ west.csv"),
+            ]),
+        ),
+        ("60 leaves", wide),
+        ("32 levels of two lines", deep),
+        ("256 nodes", large),
+    ]
+}
+
+fn main() {
+    let rounds = std::env::args().nth(1).and_then(|w| w.parse().ok()).unwrap_or(200);
+    println!("text                        cells    bytes   crate ns      ns  exact ns   times  exact  ns/cell");
+    for (name, pairs) in plans() {
+        let tree = grow(&pairs, &mut 0);
+        let expected = theirs(&tree, false);
+        let mut lent = Lent::new(&pairs);
+        let cells = lent.text()[1] as usize;
+        lent.canvas = vec![0; cells];
+        lent.out = vec![0; 5 * cells];
+        let five = lent.text();
+        assert!(five[0] == 0 && lent.out[..five[1] as usize] == *expected.as_bytes(), "{name}: the drawings differ");
+        let mut exact = Lent::new(&pairs);
+        exact.canvas = vec![0; cells];
+        exact.out = vec![0; expected.len()];
+        assert!(exact.text()[0] == 0 && exact.out == *expected.as_bytes(), "{name}: the drawings differ");
+        let times = race(
+            &mut [
+                &mut || { std::hint::black_box(theirs(std::hint::black_box(&tree), false)); },
+                &mut || { std::hint::black_box(lent.text()); },
+                &mut || { std::hint::black_box(exact.text()); },
+            ],
+            rounds,
+        );
+        println!(
+            "{:24} {:8} {:8} {:10.0} {:7.0} {:9.0} {:7.2} {:6.2} {:8.2}   (middle rounds: {:.2} {:.2})",
+            name, cells, expected.len(), times[0].0, times[1].0, times[2].0,
+            times[0].0 / times[1].0, times[0].0 / times[2].0, times[1].0 / cells as f64,
+            times[0].1 / times[1].1, times[0].1 / times[2].1,
+        );
+    }
+    println!("\ndot                         nodes    bytes   crate ns      ns    times");
+    for (name, pairs) in plans() {
+        let tree = grow(&pairs, &mut 0);
+        let expected = theirs(&tree, true);
+        let mut lent = Lent::new(&pairs);
+        lent.out = vec![0; expected.len()];
+        assert!(lent.dot()[0] == 0 && lent.out == *expected.as_bytes(), "{name}: the graphs differ");
+        let times = race(
+            &mut [
+                &mut || { std::hint::black_box(theirs(std::hint::black_box(&tree), true)); },
+                &mut || { std::hint::black_box(lent.dot()); },
+            ],
+            rounds,
+        );
+        println!(
+            "{:24} {:8} {:8} {:10.0} {:7.0} {:8.2}   (middle rounds: {:.2})",
+            name, pairs.len(), expected.len(), times[0].0, times[1].0, times[0].0 / times[1].0, times[0].1 / times[1].1,
+        );
+    }
+}

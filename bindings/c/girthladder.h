@@ -1,0 +1,99 @@
+/* Girthladder for C and C++: query plans as trees of boxes and as graphs.
+ *
+ * A plan is a table and the bytes of its titles. The table has three uint32_t for each node, nodes depth first:
+ *
+ *     depth          0 for the first node, and for it alone; each later depth is at least 1 and at most one more than the depth before it
+ *     title start    where the node's title begins in the title bytes
+ *     title length   in bytes; a title is UTF-8, its lines are parted by '\n', and an empty title gives a node without a box
+ *
+ * At most 256 nodes, depth 31, 1,024 bytes in a title, and 1,048,576 canvas cells (width times height).
+ *
+ * All memory is lent by the caller, by a pointer and its number of elements. Whatever is in the table and the titles, and whatever the
+ * lengths are, each function comes back with an answer. Null pointers are allowed where the length is 0. What is lent must be there for
+ * its whole length, aligned as its type asks, and no two of the lent memories may overlap; `answer` is never null. There is no state and
+ * no allocation: any number of threads may call at once. The deepest stack is under 24 KiB.
+ *
+ * This prints the drawing of three nodes ("a" above "b" and "c"):
+ *
+ *     #include "girthladder.h"
+ *     #include <stdio.h>
+ *
+ *     int main(void) {
+ *         const uint32_t table[] = {0, 0, 1,   1, 1, 1,   1, 2, 1};
+ *         const uint8_t titles[] = {'a', 'b', 'c'};
+ *         static uint32_t canvas[4096];
+ *         static uint8_t out[5 * 4096];
+ *         struct girthladder_answer answer;
+ *         girthladder_text(table, 9, titles, 3, canvas, 4096, out, sizeof out, &answer);
+ *         if (answer.number == GIRTHLADDER_DONE) fwrite(out, 1, (size_t)answer.second, stdout);
+ *         else printf("refused %d %d\n", (int)answer.number, (int)answer.second);
+ *         return 0;
+ *     }
+ *
+ * `rt staticlib girthladder` makes target/staticlib/libgirthladder.a (x86-64); then: cc -I bindings/c plan.c target/staticlib/libgirthladder.a
+ */
+#ifndef GIRTHLADDER_H
+#define GIRTHLADDER_H
+
+#include <stddef.h>
+#include <stdint.h>
+
+#ifdef __cplusplus
+extern "C" {
+#endif
+
+/* What `number` may be. They are looked for in this order, each over all nodes before the next. Behind each: the second number. */
+enum girthladder_number {
+    GIRTHLADDER_DONE = 0,   /* done: bytes written */
+    GIRTHLADDER_RAGGED = 1, /* the table's length is no multiple of 3: 0 */
+    GIRTHLADDER_MANY = 2,   /* over 256 nodes: 0 */
+    GIRTHLADDER_NONE = 3,   /* no node, drawing only: 0 */
+    GIRTHLADDER_DEPTH = 4,  /* the depth rule is broken, or a depth is over 31: the first such node, counted from 0 */
+    GIRTHLADDER_TITLE = 5,  /* a title reaches past the title bytes, or has over 1,024: the first such node */
+    GIRTHLADDER_UTF8 = 6,   /* a title is not valid UTF-8: the first such node */
+    GIRTHLADDER_LARGE = 7,  /* over 1,048,576 cells, drawing only: 0 */
+    GIRTHLADDER_CANVAS = 8, /* the canvas is too short, drawing only: cells needed */
+    GIRTHLADDER_ROOM = 9    /* the output is too short: bytes needed */
+};
+
+/* What a function answers: all five numbers are written by every call. */
+struct girthladder_answer {
+    uint64_t number;   /* one of enum girthladder_number */
+    uint64_t second;   /* its second number */
+    uint64_t width;    /* of a finished drawing, in cells; else 0 */
+    uint64_t height;   /* of a finished drawing, in rows; else 0 */
+    uint64_t untitled; /* of a finished drawing, the nodes with an empty title; else 0 */
+};
+
+/* Draws the plan as a tree of boxes.
+ *   DONE    out[0 .. second) holds the text: `height` lines in UTF-8, each without spaces at its end and with '\n';
+ *           canvas[0 .. width * height) holds its code points, row by row, `width` to a row. What lies beyond is unchanged.
+ *   ROOM    the canvas is as for DONE; out is unchanged.
+ *   else    canvas and out are unchanged.
+ * How much to lend: ask with canvas and out of length 0; CANVAS tells the cells needed, and 5 bytes for each cell are always room enough. */
+void girthladder_text(const uint32_t *table, size_t table_length,
+                      const uint8_t *titles, size_t titles_length,
+                      uint32_t *canvas, size_t canvas_length,
+                      uint8_t *out, size_t out_length,
+                      struct girthladder_answer *answer);
+
+/* Writes the plan as the graph of the crate polars-plan, titles as they are.
+ *   DONE    out[0 .. second) holds the graph, with no '\n' at its end. What lies beyond is unchanged.
+ *   else    out is unchanged.
+ * Never NONE, LARGE or CANVAS. How much to lend: ask with out of length 0; ROOM tells the bytes needed. */
+void girthladder_dot(const uint32_t *table, size_t table_length,
+                     const uint8_t *titles, size_t titles_length,
+                     uint8_t *out, size_t out_length,
+                     struct girthladder_answer *answer);
+
+/* The same for Graphviz: quotes and line breaks in titles are escaped, and no two nodes share a name. */
+void girthladder_fenced(const uint32_t *table, size_t table_length,
+                        const uint8_t *titles, size_t titles_length,
+                        uint8_t *out, size_t out_length,
+                        struct girthladder_answer *answer);
+
+#ifdef __cplusplus
+}
+#endif
+
+#endif

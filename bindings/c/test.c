@@ -1,0 +1,215 @@
+/* Draws document 01's example through girthladder.h, meets each refusal, and tries every length of canvas and output around what is needed.
+ * Each lent memory ends at a page that may not be touched and has marked bytes before it; tables and titles are lent read-only. */
+#define _DEFAULT_SOURCE
+#include "girthladder.h"
+#include <stdio.h>
+#include <stdlib.h>
+#include <string.h>
+#include <sys/mman.h>
+
+static long checks;
+
+#define CHECK(fact) do { checks++; if (!(fact)) { fprintf(stderr, "%s:%d: not so: %s\n", __FILE__, __LINE__, #fact); exit(1); } } while (0)
+
+/* Lent memory: `size` bytes whose end is the start of a page that may not be touched. */
+enum { PAGE = 4096, MARK = 0xA5 };
+struct lent { uint8_t *pages; size_t front; uint8_t *at; size_t size; };
+
+static struct lent lend(size_t size) {
+    struct lent l;
+    l.front = (size / PAGE + 1) * PAGE;
+    l.pages = mmap(NULL, PAGE + l.front + PAGE, PROT_READ | PROT_WRITE, MAP_PRIVATE | MAP_ANONYMOUS, -1, 0);
+    CHECK(l.pages != MAP_FAILED);
+    CHECK(mprotect(l.pages, PAGE, PROT_NONE) == 0);
+    CHECK(mprotect(l.pages + PAGE + l.front, PAGE, PROT_NONE) == 0);
+    memset(l.pages + PAGE, MARK, l.front);
+    l.at = l.pages + PAGE + l.front - size;
+    l.size = size;
+    return l;
+}
+
+/* All bytes before the lent memory, and in it from `from` on, are marked still. */
+static int marked(const struct lent *l, size_t from) {
+    for (const uint8_t *b = l->pages + PAGE; b < l->at; b++) if (*b != MARK) return 0;
+    for (size_t k = from; k < l->size; k++) if (l->at[k] != MARK) return 0;
+    return 1;
+}
+
+static void give_back(struct lent *l) { CHECK(munmap(l->pages, PAGE + l->front + PAGE) == 0); }
+
+static struct lent read_only(const void *bytes, size_t size) {
+    struct lent l = lend(size);
+    if (size) memcpy(l.at, bytes, size);
+    CHECK(mprotect(l.pages + PAGE, l.front, PROT_READ) == 0);
+    return l;
+}
+
+/* A plan on read-only pages; `null` lends null pointers for what is empty. */
+struct plan { struct lent table, titles; };
+
+static struct plan plan(const uint32_t *table, size_t entries, const void *titles, size_t bytes) {
+    struct plan p = {read_only(table, 4 * entries), read_only(titles, bytes)};
+    return p;
+}
+
+static void forget(struct plan *p) { give_back(&p->table); give_back(&p->titles); }
+
+static const void *pointer(const struct lent *l, int null) { return null && l->size == 0 ? NULL : l->at; }
+
+typedef void graph(const uint32_t *, size_t, const uint8_t *, size_t, uint8_t *, size_t, struct girthladder_answer *);
+
+/* The answer of a call, whose own memory is guarded too. */
+static struct girthladder_answer call(graph *f, const struct plan *p, struct lent *canvas, struct lent *out, int null) {
+    struct lent five = lend(sizeof(struct girthladder_answer));
+    struct girthladder_answer a, *answer = (struct girthladder_answer *)five.at;
+    const uint32_t *table = pointer(&p->table, null);
+    const uint8_t *titles = pointer(&p->titles, null);
+    if (f) f(table, p->table.size / 4, titles, p->titles.size, (uint8_t *)pointer(out, null), out->size, answer);
+    else girthladder_text(table, p->table.size / 4, titles, p->titles.size, (uint32_t *)pointer(canvas, null), canvas->size / 4,
+                          (uint8_t *)pointer(out, null), out->size, answer);
+    CHECK(marked(&five, sizeof a));
+    a = *answer;
+    give_back(&five);
+    return a;
+}
+
+static int is(struct girthladder_answer a, uint64_t number, uint64_t second) {
+    return a.number == number && a.second == second && (number == 0 || (a.width == 0 && a.height == 0 && a.untitled == 0));
+}
+
+static const char picture[] =
+    "        0      1\n"
+    "   ┌──────────────\n"
+    "   │\n"
+    "   │  ╭───╮\n"
+    " 0 │  │ a │\n"
+    "   │  ╰─┬┬╯\n"
+    "   │    ││\n"
+    "   │    │╰─────╮\n"
+    "   │    │      │\n"
+    "   │  ╭─┴─╮  ╭─┴─╮\n"
+    " 1 │  │ b │  │ c │\n"
+    "   │  ╰───╯  ╰───╯\n";
+static const char bare[] =
+    "graph {\n"
+    "    n00 [label=\"a\", ordering=\"out\"]\n"
+    "    n00 -- n11\n"
+    "    n00 -- n10\n"
+    "    n10 [label=\"b\", ordering=\"out\"]\n"
+    "    n11 [label=\"c\", ordering=\"out\"]\n"
+    "}";
+static const char fenced[] =
+    "graph {\n"
+    "    n0_0 [label=\"a\", ordering=\"out\"]\n"
+    "    n0_0 -- n1_1\n"
+    "    n0_0 -- n1_0\n"
+    "    n1_0 [label=\"b\", ordering=\"out\"]\n"
+    "    n1_1 [label=\"c\", ordering=\"out\"]\n"
+    "}";
+enum { CELLS = 18 * 12, BYTES = sizeof picture - 1 };
+
+/* The example with this much canvas and room: what is answered, and what is left in both. */
+static void example(const struct plan *p, size_t cells, size_t room, int null) {
+    struct lent canvas = lend(4 * cells), out = lend(room);
+    struct girthladder_answer a = call(NULL, p, &canvas, &out, null);
+    if (cells < CELLS) {
+        CHECK(is(a, GIRTHLADDER_CANVAS, CELLS) && marked(&canvas, 0) && marked(&out, 0));
+    } else {
+        const uint32_t *cell = (const uint32_t *)canvas.at;
+        CHECK(cell[0] == ' ' && cell[18 + 3] == 0x250C && cell[4 * 18 + 8] == 'a' && cell[11 * 18 + 17] == 0x256F);
+        CHECK(marked(&canvas, 4 * CELLS));
+        if (room < BYTES) {
+            CHECK(is(a, GIRTHLADDER_ROOM, BYTES) && marked(&out, 0));
+        } else {
+            CHECK(is(a, GIRTHLADDER_DONE, BYTES) && a.width == 18 && a.height == 12 && a.untitled == 0);
+            CHECK(memcmp(out.at, picture, BYTES) == 0 && marked(&out, BYTES));
+        }
+    }
+    give_back(&canvas);
+    give_back(&out);
+}
+
+/* The example as a graph with this much room. */
+static void graphed(graph *f, const char *text, size_t bytes, const struct plan *p, size_t room, int null) {
+    struct lent out = lend(room);
+    struct girthladder_answer a = call(f, p, NULL, &out, null);
+    if (room < bytes) {
+        CHECK(is(a, GIRTHLADDER_ROOM, bytes) && marked(&out, 0));
+    } else {
+        CHECK(is(a, GIRTHLADDER_DONE, bytes) && a.width == 0 && a.height == 0 && a.untitled == 0);
+        CHECK(memcmp(out.at, text, bytes) == 0 && marked(&out, bytes));
+    }
+    give_back(&out);
+}
+
+/* A refusal: of the drawing this number (its second number with it), of both graphs that one; no memory changes. */
+static void refused(const uint32_t *table, size_t entries, const void *titles, size_t bytes, uint64_t number, uint64_t second, int graphs_too) {
+    for (int null = 0; null < 2; null++) {
+        struct plan p = plan(table, entries, titles, bytes);
+        struct lent canvas = lend(4 * 999), out = lend(999), none = lend(0);
+        CHECK(is(call(NULL, &p, &canvas, &out, null), number, second) && marked(&canvas, 0) && marked(&out, 0));
+        CHECK(is(call(NULL, &p, &none, &none, null), number, second) && marked(&none, 0));
+        if (graphs_too) {
+            CHECK(is(call(girthladder_dot, &p, NULL, &out, null), number, second) && marked(&out, 0));
+            CHECK(is(call(girthladder_fenced, &p, NULL, &none, null), number, second) && marked(&none, 0));
+        }
+        give_back(&canvas);
+        give_back(&out);
+        give_back(&none);
+        forget(&p);
+    }
+}
+
+static void each_refusal(void) {
+    static uint32_t many[3 * 257], deep[3 * 33], wide[3 * 256];
+    static uint8_t long_title[1025];
+    const uint32_t good[] = {0, 0, 1, 1, 1, 1, 1, 2, 1};
+    const uint32_t second_root[] = {0, 0, 1, 0, 1, 1}, jump[] = {0, 0, 1, 1, 0, 1, 3, 0, 1}, no_root[] = {1, 0, 1};
+    const uint32_t outside[] = {0, 0, 1, 1, 2, 2}, wraps[] = {0, 0, 1, 1, 0xFFFFFFFF, 0xFFFFFFFF}, lengthy[] = {0, 0, 1025};
+    const uint32_t both[] = {0, 9, 9, 2, 0, 1};
+    memset(long_title, 'x', sizeof long_title);
+    for (uint32_t k = 0; k < 257; k++) many[3 * k] = k ? 1 : 0;
+    for (uint32_t k = 0; k < 33; k++) deep[3 * k] = k;
+    for (uint32_t k = 0; k < 256; k++) { wide[3 * k] = k ? 1 : 0; wide[3 * k + 2] = 1024; }
+    refused(good, 8, "abc", 3, GIRTHLADDER_RAGGED, 0, 1);
+    refused(good, 1, "abc", 3, GIRTHLADDER_RAGGED, 0, 1);
+    refused(many, 3 * 257, "", 0, GIRTHLADDER_MANY, 0, 1);
+    refused(NULL, 0, NULL, 0, GIRTHLADDER_NONE, 0, 0);
+    refused(no_root, 3, "abc", 3, GIRTHLADDER_DEPTH, 0, 1);
+    refused(second_root, 6, "abc", 3, GIRTHLADDER_DEPTH, 1, 1);
+    refused(jump, 9, "abc", 3, GIRTHLADDER_DEPTH, 2, 1);
+    refused(deep, 3 * 33, "", 0, GIRTHLADDER_DEPTH, 32, 1);
+    refused(both, 6, "abc", 3, GIRTHLADDER_DEPTH, 1, 1);
+    refused(outside, 6, "abc", 3, GIRTHLADDER_TITLE, 1, 1);
+    refused(wraps, 6, "abc", 3, GIRTHLADDER_TITLE, 1, 1);
+    refused(good, 9, NULL, 0, GIRTHLADDER_TITLE, 0, 1);
+    refused(lengthy, 3, long_title, 1025, GIRTHLADDER_TITLE, 0, 1);
+    refused(good, 9, "a\xC0\x80", 3, GIRTHLADDER_UTF8, 1, 1);
+    refused(good, 9, "ab\xCF", 3, GIRTHLADDER_UTF8, 2, 1);
+    refused(wide, 3 * 256, long_title, 1025, GIRTHLADDER_LARGE, 0, 0);
+}
+
+int main(void) {
+    const uint32_t table[] = {0, 0, 1, 1, 1, 1, 1, 2, 1}, untitled[] = {0, 0, 1, 1, 1, 0, 1, 1, 0};
+    struct plan p = plan(table, 9, "abc", 3), empty = plan(NULL, 0, NULL, 0), lost = plan(untitled, 9, "abc", 3);
+    for (int null = 0; null < 2; null++) {
+        for (size_t cells = 0; cells < CELLS + 20; cells++) example(&p, cells, BYTES, null);
+        for (size_t room = 0; room < BYTES + 20; room++) example(&p, CELLS, room, null);
+        example(&p, CELLS + 9, 5 * CELLS, null);
+        for (size_t room = 0; room < sizeof bare + 20; room++) graphed(girthladder_dot, bare, sizeof bare - 1, &p, room, null);
+        for (size_t room = 0; room < sizeof fenced + 20; room++) graphed(girthladder_fenced, fenced, sizeof fenced - 1, &p, room, null);
+        graphed(girthladder_dot, "graph {\n    \n}", 14, &empty, 14, null);
+        graphed(girthladder_fenced, "graph {\n    \n}", 14, &empty, 0, null);
+        struct lent canvas = lend(4 * CELLS), out = lend(5 * CELLS);
+        struct girthladder_answer a = call(NULL, &lost, &canvas, &out, null);
+        CHECK(a.number == GIRTHLADDER_DONE && a.untitled == 2);
+        give_back(&canvas);
+        give_back(&out);
+    }
+    each_refusal();
+    forget(&p);
+    forget(&empty);
+    forget(&lost);
+    printf("C: document 01's example and every refusal, with guarded memory: %ld checks hold\n", checks);
+    return 0;
+}

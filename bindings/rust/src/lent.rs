@@ -1,0 +1,97 @@
+//! The same on lent memory: nothing is allocated. A table has three numbers a node, as [`Plan::parts`](crate::Plan::parts) gives them;
+//! any table, any titles and any lengths are taken.
+
+use crate::Refusal;
+
+// girthladder.h. An empty slice's pointer is never read through.
+extern "C" {
+    fn girthladder_text(
+        table: *const u32,
+        table_length: usize,
+        titles: *const u8,
+        titles_length: usize,
+        canvas: *mut u32,
+        canvas_length: usize,
+        out: *mut u8,
+        out_length: usize,
+        answer: *mut [u64; 5],
+    );
+    fn girthladder_dot(
+        table: *const u32,
+        table_length: usize,
+        titles: *const u8,
+        titles_length: usize,
+        out: *mut u8,
+        out_length: usize,
+        answer: *mut [u64; 5],
+    );
+    fn girthladder_fenced(
+        table: *const u32,
+        table_length: usize,
+        titles: *const u8,
+        titles_length: usize,
+        out: *mut u8,
+        out_length: usize,
+        answer: *mut [u64; 5],
+    );
+}
+
+/// A finished drawing.
+#[derive(Clone, Copy, Debug, PartialEq, Eq)]
+pub struct Drawing {
+    /// How many bytes of the output hold the text.
+    pub bytes: usize,
+    /// Cells in a row of the canvas.
+    pub width: usize,
+    /// Rows of the canvas.
+    pub height: usize,
+    /// Nodes with an empty title.
+    pub untitled: usize,
+}
+
+/// Draws on the first width times height cells of the canvas and writes the text to the front of `out`; what lies beyond is unchanged.
+/// `Room` leaves the canvas drawn and `out` unchanged; every other refusal leaves both unchanged.
+/// 5 bytes for each cell are always room enough.
+pub fn text(table: &[u32], titles: &[u8], canvas: &mut [u32], out: &mut [u8]) -> Result<Drawing, Refusal> {
+    let mut five = [0; 5];
+    // SAFETY: four slices that do not overlap, lent for the call by pointer and length, and five numbers.
+    unsafe {
+        girthladder_text(
+            table.as_ptr(),
+            table.len(),
+            titles.as_ptr(),
+            titles.len(),
+            canvas.as_mut_ptr(),
+            canvas.len(),
+            out.as_mut_ptr(),
+            out.len(),
+            &mut five,
+        )
+    };
+    let bytes = done(five, table, titles)?;
+    Ok(Drawing { bytes, width: five[2] as usize, height: five[3] as usize, untitled: five[4] as usize })
+}
+
+/// Writes the crate's graph to the front of `out` and answers its bytes; a refusal leaves `out` unchanged.
+pub fn dot(table: &[u32], titles: &[u8], out: &mut [u8]) -> Result<usize, Refusal> {
+    let mut five = [0; 5];
+    // SAFETY: three slices that do not overlap, lent for the call by pointer and length, and five numbers.
+    unsafe { girthladder_dot(table.as_ptr(), table.len(), titles.as_ptr(), titles.len(), out.as_mut_ptr(), out.len(), &mut five) };
+    done(five, table, titles)
+}
+
+/// Writes the fenced graph to the front of `out` and answers its bytes; a refusal leaves `out` unchanged.
+pub fn fenced(table: &[u32], titles: &[u8], out: &mut [u8]) -> Result<usize, Refusal> {
+    let mut five = [0; 5];
+    // SAFETY: three slices that do not overlap, lent for the call by pointer and length, and five numbers.
+    unsafe { girthladder_fenced(table.as_ptr(), table.len(), titles.as_ptr(), titles.len(), out.as_mut_ptr(), out.len(), &mut five) };
+    done(five, table, titles)
+}
+
+// The bytes written, or the refusal.
+fn done(five: [u64; 5], table: &[u32], titles: &[u8]) -> Result<usize, Refusal> {
+    match five[0] {
+        0 => Ok(five[1] as usize),
+        number => Err(Refusal::of(number, five[1], table, titles)),
+    }
+}

@@ -1,0 +1,68 @@
+//! Query plans as trees of boxes and as graphs, by the proved library behind `girthladder.h`.
+//!
+//! ```
+//! use girthladder::Plan;
+//! let plan: Plan = [(0, "a"), (1, "b"), (1, "c")].into_iter().collect();
+//! print!("{}", girthladder::draw(&plan).unwrap());
+//! ```
+//!
+//! [`draw`], [`dot`] and [`fenced`] lend what is needed and answer a `String`; [`lent`] has the same on memory of the caller's.
+
+mod plan;
+mod refusal;
+
+pub mod lent;
+
+pub use plan::Plan;
+pub use refusal::Refusal;
+
+/// The most nodes of a plan.
+pub const MOST_NODES: usize = 256;
+/// The most levels of a plan: depths 0 to 31.
+pub const MOST_LEVELS: usize = 32;
+/// The most bytes of a title.
+pub const MOST_TITLE: usize = 1024;
+/// The most cells of a drawing, width times height.
+pub const MOST_CELLS: usize = 1048576;
+
+/// The drawing: lines in UTF-8, each with its line break.
+pub fn draw(plan: &Plan) -> Result<String, Refusal> {
+    let (table, titles) = plan.parts();
+    let cells = match lent::text(table, titles, &mut [], &mut []) {
+        Err(Refusal::Canvas { needed }) => needed,
+        Err(refusal) => return Err(refusal),
+        Ok(_) => unreachable!("a drawing has cells"),
+    };
+    let mut canvas = vec![0; cells];
+    let mut out = vec![0; 5 * cells];
+    let drawing = lent::text(table, titles, &mut canvas, &mut out)?;
+    out.truncate(drawing.bytes);
+    Ok(text_of(out))
+}
+
+/// The graph as the crate polars-plan writes it, titles as they are.
+pub fn dot(plan: &Plan) -> Result<String, Refusal> {
+    grown(plan, lent::dot)
+}
+
+/// The graph for Graphviz: quotes and line breaks of titles escaped, no name twice.
+pub fn fenced(plan: &Plan) -> Result<String, Refusal> {
+    grown(plan, lent::fenced)
+}
+
+// A graph in as many bytes as it needs.
+fn grown(plan: &Plan, graph: fn(&[u32], &[u8], &mut [u8]) -> Result<usize, Refusal>) -> Result<String, Refusal> {
+    let (table, titles) = plan.parts();
+    let bytes = match graph(table, titles, &mut []) {
+        Err(Refusal::Room { needed }) => needed,
+        Err(refusal) => return Err(refusal),
+        Ok(_) => unreachable!("a graph has bytes"),
+    };
+    let mut out = vec![0; bytes];
+    graph(table, titles, &mut out)?;
+    Ok(text_of(out))
+}
+
+fn text_of(out: Vec<u8>) -> String {
+    String::from_utf8(out).expect("what is written is UTF-8")
+}

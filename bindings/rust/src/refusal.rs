@@ -1,0 +1,90 @@
+//! Why a plan was not drawn, in words.
+
+use std::fmt;
+
+/// Why there is no drawing or graph. `to_string` says it in words, with the node; nodes are counted from 0.
+#[derive(Clone, Copy, Debug, PartialEq, Eq)]
+#[non_exhaustive]
+pub enum Refusal {
+    /// 1: the table's length is no multiple of 3.
+    Ragged { entries: usize },
+    /// 2: over 256 nodes.
+    Many { nodes: usize },
+    /// 3: no node; drawing only.
+    NoNode,
+    /// 4: this node's depth breaks the rule, or is over 31. `before` is the depth of the node before it.
+    Depth { node: usize, depth: u32, before: Option<u32> },
+    /// 5: this node's title has over 1,024 bytes, or lies outside the title bytes, of which there are `titles`.
+    Title { node: usize, start: u32, length: u32, titles: usize },
+    /// 6: this node's title is not valid UTF-8.
+    Utf8 { node: usize },
+    /// 7: over 1,048,576 cells; drawing only.
+    Large,
+    /// 8: the lent canvas is too short; drawing only.
+    Canvas { needed: usize },
+    /// 9: the lent output is too short.
+    Room { needed: usize },
+}
+
+impl Refusal {
+    /// Its number in girthladder.h.
+    pub fn number(self) -> u32 {
+        match self {
+            Refusal::Ragged { .. } => 1,
+            Refusal::Many { .. } => 2,
+            Refusal::NoNode => 3,
+            Refusal::Depth { .. } => 4,
+            Refusal::Title { .. } => 5,
+            Refusal::Utf8 { .. } => 6,
+            Refusal::Large => 7,
+            Refusal::Canvas { .. } => 8,
+            Refusal::Room { .. } => 9,
+        }
+    }
+
+    // From the library's first two numbers, with the details that the table has.
+    pub(crate) fn of(number: u64, second: u64, table: &[u32], titles: &[u8]) -> Refusal {
+        let node = second as usize;
+        let entry = |k: usize, part: usize| table[3 * k + part];
+        match number {
+            1 => Refusal::Ragged { entries: table.len() },
+            2 => Refusal::Many { nodes: table.len() / 3 },
+            3 => Refusal::NoNode,
+            4 => Refusal::Depth { node, depth: entry(node, 0), before: node.checked_sub(1).map(|k| entry(k, 0)) },
+            5 => Refusal::Title { node, start: entry(node, 1), length: entry(node, 2), titles: titles.len() },
+            6 => Refusal::Utf8 { node },
+            7 => Refusal::Large,
+            8 => Refusal::Canvas { needed: node },
+            9 => Refusal::Room { needed: node },
+            _ => unreachable!("the library answers 0 to 9"),
+        }
+    }
+}
+
+impl fmt::Display for Refusal {
+    fn fmt(&self, f: &mut fmt::Formatter<'_>) -> fmt::Result {
+        match *self {
+            Refusal::Ragged { entries } => write!(f, "the table has {entries} entries, which is no multiple of 3"),
+            Refusal::Many { nodes } => write!(f, "the plan has {nodes} nodes, and at most {} can be shown", crate::MOST_NODES),
+            Refusal::NoNode => write!(f, "the plan has no node, so there is nothing to draw"),
+            Refusal::Depth { node, depth, before: None } => write!(f, "node {node} is at depth {depth}, but the first node must be at depth 0"),
+            Refusal::Depth { node, depth: 0, .. } => write!(f, "node {node} is at depth 0, but only the first node may be"),
+            Refusal::Depth { node, depth, before: Some(before) } if depth > before.saturating_add(1) => {
+                write!(f, "node {node} is at depth {depth}, but the node before it is at depth {before}, so {} is the deepest it may be", before.saturating_add(1))
+            },
+            Refusal::Depth { node, depth, .. } => write!(f, "node {node} is at depth {depth}, and {} is the deepest that can be shown", crate::MOST_LEVELS - 1),
+            Refusal::Title { node, length, .. } if length as usize > crate::MOST_TITLE => {
+                write!(f, "the title of node {node} has {length} bytes, and at most {} can be shown", crate::MOST_TITLE)
+            },
+            Refusal::Title { node, start, length, titles } => {
+                write!(f, "the title of node {node}, {length} bytes from {start} on, lies outside the {titles} title bytes")
+            },
+            Refusal::Utf8 { node } => write!(f, "the title of node {node} is not valid UTF-8"),
+            Refusal::Large => write!(f, "the drawing has more than {} cells", crate::MOST_CELLS),
+            Refusal::Canvas { needed } => write!(f, "the canvas is too short: the drawing needs {needed} cells"),
+            Refusal::Room { needed } => write!(f, "the output is too short: {needed} bytes are needed"),
+        }
+    }
+}
+
+impl std::error::Error for Refusal {}

@@ -1,0 +1,167 @@
+//! Document 01's example and every refusal, through `draw`, `dot`, `fenced` and on lent memory with marked numbers around each buffer.
+use girthladder::{dot, draw, fenced, lent, Plan, Refusal};
+
+const PICTURE: &str = "        0      1
+   ┌──────────────
+   │
+   │  ╭───╮
+ 0 │  │ a │
+   │  ╰─┬┬╯
+   │    ││
+   │    │╰─────╮
+   │    │      │
+   │  ╭─┴─╮  ╭─┴─╮
+ 1 │  │ b │  │ c │
+   │  ╰───╯  ╰───╯
+";
+const CELLS: usize = 18 * 12;
+const TABLE: [u32; 9] = [0, 0, 1, 1, 1, 1, 1, 2, 1];
+const MARGIN: usize = 64;
+
+fn plan(pairs: &[(usize, &str)]) -> Plan {
+    pairs.iter().copied().collect()
+}
+
+fn example() -> Plan {
+    plan(&[(0, "a"), (1, "b"), (1, "c")])
+}
+
+// Draws on slices in the middle of marked memory, and looks that what lies around them is marked still.
+fn guarded(table: &[u32], titles: &[u8], cells: usize, room: usize) -> (Result<lent::Drawing, Refusal>, Vec<u32>, Vec<u8>) {
+    let (mut canvas, mut out) = (vec![0xA5A5A5A5u32; cells + 2 * MARGIN], vec![0xA5u8; room + 2 * MARGIN]);
+    let answer = lent::text(table, titles, &mut canvas[MARGIN..MARGIN + cells], &mut out[MARGIN..MARGIN + room]);
+    assert!(canvas[..MARGIN].iter().chain(&canvas[MARGIN + cells..]).all(|&c| c == 0xA5A5A5A5));
+    assert!(out[..MARGIN].iter().chain(&out[MARGIN + room..]).all(|&b| b == 0xA5));
+    (answer, canvas[MARGIN..MARGIN + cells].to_vec(), out[MARGIN..MARGIN + room].to_vec())
+}
+
+fn unchanged(canvas: &[u32], out: &[u8]) -> bool {
+    canvas.iter().all(|&c| c == 0xA5A5A5A5) && out.iter().all(|&b| b == 0xA5)
+}
+
+#[test]
+fn the_example() {
+    assert_eq!(draw(&example()).unwrap(), PICTURE);
+    assert!(dot(&example()).unwrap().starts_with("graph {\n    n00 [label=\"a\", ordering=\"out\"]\n    n00 -- n11\n    n00 -- n10\n"));
+    assert!(fenced(&example()).unwrap().contains("    n0_0 -- n1_1\n"));
+    assert_eq!(dot(&Plan::new()).unwrap(), "graph {\n    \n}");
+    assert_eq!(fenced(&plan(&[(0, "say \"a\"\nb")])).unwrap(), "graph {\n    n0_0 [label=\"say \\\"a\\\"\\nb\", ordering=\"out\"]\n}");
+}
+
+#[test]
+fn every_length_around_what_is_needed() {
+    let bytes = PICTURE.len();
+    for cells in 0..CELLS + 9 {
+        let (answer, canvas, out) = guarded(&TABLE, b"abc", cells, bytes);
+        if cells < CELLS {
+            assert_eq!(answer, Err(Refusal::Canvas { needed: CELLS }));
+            assert!(unchanged(&canvas, &out));
+        } else {
+            assert_eq!(answer, Ok(lent::Drawing { bytes, width: 18, height: 12, untitled: 0 }));
+            assert_eq!(out, PICTURE.as_bytes());
+            assert!(unchanged(&canvas[CELLS..], &[]));
+        }
+    }
+    for room in 0..5 * CELLS {
+        let (answer, canvas, out) = guarded(&TABLE, b"abc", CELLS, room);
+        assert_eq!(canvas[4 * 18 + 8], 'a' as u32);
+        if room < bytes {
+            assert_eq!(answer, Err(Refusal::Room { needed: bytes }));
+            assert!(unchanged(&[], &out));
+        } else {
+            assert!(answer.is_ok() && out[..bytes] == *PICTURE.as_bytes() && unchanged(&[], &out[bytes..]));
+        }
+    }
+}
+
+#[test]
+fn graphs_on_lent_memory() {
+    for graph in [lent::dot, lent::fenced] {
+        let needed = match graph(&TABLE, b"abc", &mut []) {
+            Err(Refusal::Room { needed }) => needed,
+            other => panic!("{other:?}"),
+        };
+        for room in 0..needed + 9 {
+            let mut out = vec![0xA5; room + 2 * MARGIN];
+            let answer = graph(&TABLE, b"abc", &mut out[MARGIN..MARGIN + room]);
+            let written = if room < needed { 0 } else { needed };
+            assert_eq!(answer, if room < needed { Err(Refusal::Room { needed }) } else { Ok(needed) });
+            assert!(unchanged(&[], &out[..MARGIN]) && unchanged(&[], &out[MARGIN + written..]));
+        }
+    }
+}
+
+// A refusal of the drawing, and of both graphs too; it changes no memory and says why in these words.
+fn refused(table: &[u32], titles: &[u8], refusal: Refusal, words: &str) {
+    let (answer, canvas, out) = guarded(table, titles, 999, 999);
+    assert_eq!(answer, Err(refusal));
+    assert!(unchanged(&canvas, &out));
+    assert_eq!(lent::text(table, titles, &mut [], &mut []), Err(refusal));
+    assert_eq!(refusal.to_string(), words);
+    if !matches!(refusal, Refusal::NoNode | Refusal::Large) {
+        assert_eq!(lent::dot(table, titles, &mut []), Err(refusal));
+        assert_eq!(lent::fenced(table, titles, &mut [0; 99]), Err(refusal));
+    }
+}
+
+#[test]
+fn each_refusal_of_a_table() {
+    refused(&TABLE[..8], b"abc", Refusal::Ragged { entries: 8 }, "the table has 8 entries, which is no multiple of 3");
+    refused(&[0, 9, 9], b"abc", Refusal::Title { node: 0, start: 9, length: 9, titles: 3 }, "the title of node 0, 9 bytes from 9 on, lies outside the 3 title bytes");
+    refused(&TABLE, b"a\xC0\x80", Refusal::Utf8 { node: 1 }, "the title of node 1 is not valid UTF-8");
+    refused(&[], b"", Refusal::NoNode, "the plan has no node, so there is nothing to draw");
+}
+
+#[test]
+fn each_refusal_of_a_plan() {
+    let long = "x".repeat(1025);
+    let said = |p: &Plan| {
+        let refusal = draw(p).unwrap_err();
+        if refusal != Refusal::NoNode && refusal != Refusal::Large {
+            assert_eq!((dot(p), fenced(p)), (Err(refusal), Err(refusal)));
+        }
+        (refusal.number(), refusal.to_string())
+    };
+    let many: Plan = (0..300).map(|k| (usize::from(k > 0), "x")).collect();
+    let deep: Plan = (0..33).map(|k| (k, "x")).collect();
+    let wide: Plan = (0..256).map(|k| (usize::from(k > 0), &long[..1024])).collect();
+    assert_eq!(said(&many), (2, "the plan has 300 nodes, and at most 256 can be shown".into()));
+    assert_eq!(said(&Plan::new()), (3, "the plan has no node, so there is nothing to draw".into()));
+    assert_eq!(said(&plan(&[(2, "a")])), (4, "node 0 is at depth 2, but the first node must be at depth 0".into()));
+    assert_eq!(said(&plan(&[(0, "a"), (0, "b")])), (4, "node 1 is at depth 0, but only the first node may be".into()));
+    assert_eq!(
+        said(&plan(&[(0, "a"), (1, "b"), (usize::MAX, "c")])),
+        (4, "node 2 is at depth 4294967295, but the node before it is at depth 1, so 2 is the deepest it may be".into())
+    );
+    assert_eq!(said(&deep), (4, "node 32 is at depth 32, and 31 is the deepest that can be shown".into()));
+    assert_eq!(said(&plan(&[(0, "a"), (1, &long)])), (5, "the title of node 1 has 1025 bytes, and at most 1024 can be shown".into()));
+    assert_eq!(said(&wide), (7, "the drawing has more than 1048576 cells".into()));
+    assert!(dot(&wide).is_ok());
+}
+
+// A stand-in for polars-plan's TreeFmtNode, handed over as the README shows.
+struct TreeFmtNodeData<'a>(String, Vec<&'a TreeFmtNode>);
+struct TreeFmtNode(&'static str, Vec<TreeFmtNode>);
+
+impl TreeFmtNode {
+    fn node_data(&self) -> TreeFmtNodeData<'_> {
+        TreeFmtNodeData(self.0.to_string(), self.1.iter().collect())
+    }
+
+    fn hand_over(&self, depth: usize, plan: &mut Plan) {
+        let TreeFmtNodeData(title, children) = self.node_data();
+        plan.push(depth, &title);
+        for child in &children {
+            child.hand_over(depth + 1, plan);
+        }
+    }
+}
+
+#[test]
+fn a_tree_is_handed_over() {
+    let tree = TreeFmtNode("a", vec![TreeFmtNode("b", vec![]), TreeFmtNode("c", vec![])]);
+    let mut plan = Plan::new();
+    tree.hand_over(0, &mut plan);
+    assert_eq!(plan, example());
+    assert_eq!(plan.nodes(), 3);
+}

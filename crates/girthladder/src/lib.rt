@@ -1,0 +1,91 @@
+// The door for C and Rust: drawing and graphs on lent memory, the answer as five numbers.
+ghost use mathlib.Core.Path.{_≡_};
+ghost use lib.ListN.{length};
+ghost use Rattle.rules.specs.Drawing.{boxes};
+ghost use Rattle.rules.specs.Graph.{bare, fenced};
+ghost use Rattle.rules.specs.Answers.{drawing, canvasAfter, outAfter, graphAnswer, graphAfter};
+ghost use Rattle.girthladder.specs.Five.{drawingFive, graphFive};
+use rules::Answer;
+use rules::Drawing;
+
+// The same number.
+fn small(n: u32) -> u64
+    ensures { λ r. ⌜ r ≡ n ⌝ }
+{
+    n as u64
+}
+
+// The same number.
+fn same(n: usize) -> u64
+    ensures { λ r. ⌜ r ≡ n ⌝ }
+{
+    n as u64
+}
+
+// The five numbers of a drawing.
+fn drawing_five(d: Drawing) -> [u64; 5]
+    ensures { λ r. ⌜ r ≡ drawingFive d ⌝ }
+{
+    let a = d.answer;
+    [
+        small(rules::number(a)),
+        same(rules::second(a)),
+        same(d.width),
+        same(d.height),
+        same(d.untitled),
+    ]
+}
+
+// The five numbers of a graph.
+fn graph_five(a: Answer) -> [u64; 5]
+    ensures { λ r. ⌜ r ≡ graphFive a ⌝ }
+{
+    [small(rules::number(a)), same(rules::second(a)), 0, 0, 0]
+}
+
+// Draws a plan on the lent canvas and writes its text to `out`.
+#[no_mangle]
+pub extern "C" fn girthladder_text(
+    table: &[u32],
+    titles: &[u8],
+    canvas: &mut [u32],
+    out: &mut [u8],
+    answer: &mut [u64; 5],
+)
+    ensures answered { λ _. ⌜ now (answer .exit) ≡ drawingFive (drawing length boxes (now (table .entry)) (now (titles .entry)) (length (now (canvas .entry))) (length (now (out .entry)))) ⌝ }
+    ensures canvas_left { λ _. ⌜ now (canvas .exit) ≡ canvasAfter length boxes (now (table .entry)) (now (titles .entry)) (length (now (out .entry))) (now (canvas .entry)) ⌝ }
+    ensures out_left { λ _. ⌜ now (out .exit) ≡ outAfter length boxes (now (table .entry)) (now (titles .entry)) (length (now (canvas .entry))) (now (out .entry)) ⌝ }
+{
+    let d = tree_format::tree_fmt_text(table, titles, canvas, out);
+    *answer = drawing_five(d);
+}
+
+// Writes the crate's graph to `out`.
+#[no_mangle]
+pub extern "C" fn girthladder_dot(
+    table: &[u32],
+    titles: &[u8],
+    out: &mut [u8],
+    answer: &mut [u64; 5],
+)
+    ensures answered { λ _. ⌜ now (answer .exit) ≡ graphFive (graphAnswer bare (now (table .entry)) (now (titles .entry)) (length (now (out .entry)))) ⌝ }
+    ensures out_left { λ _. ⌜ now (out .exit) ≡ graphAfter bare (now (table .entry)) (now (titles .entry)) (now (out .entry)) ⌝ }
+{
+    let a = tree_format::tree_fmt_dot(table, titles, out);
+    *answer = graph_five(a);
+}
+
+// Writes the fenced graph to `out`.
+#[no_mangle]
+pub extern "C" fn girthladder_fenced(
+    table: &[u32],
+    titles: &[u8],
+    out: &mut [u8],
+    answer: &mut [u64; 5],
+)
+    ensures answered { λ _. ⌜ now (answer .exit) ≡ graphFive (graphAnswer fenced (now (table .entry)) (now (titles .entry)) (length (now (out .entry)))) ⌝ }
+    ensures out_left { λ _. ⌜ now (out .exit) ≡ graphAfter fenced (now (table .entry)) (now (titles .entry)) (now (out .entry)) ⌝ }
+{
+    let a = tree_format::tree_fmt_fenced(table, titles, out);
+    *answer = graph_five(a);
+}
