@@ -1,0 +1,1 @@
+// One band, column by column.
