@@ -1,3 +1,4 @@
+-- From the right: the entries from j - 1 on are right, and a turn makes one more from its neighbour.
 use mathlib.Core.Path.{_≡_, refl}
 use Prim.Native.Nat.{ℕ, _≤_, _<_, _-_}
 use native.Mathlib.Omega.{arith}
@@ -7,10 +8,6 @@ use Rattle.bands.proofs.Entries.{goes-none, goes-more}
 use borrow.Author.Needs.{needs}
 use Rattle.bands.proofs.nodes.onward.Statement.{statement}
 use Rattle.bands.proofs.nodes.onward.Tie as tie
-use Rattle.bands.proofs.nodes.onward.Reads as reads
-use Rattle.bands.proofs.nodes.onward.Lts as lts
-use Rattle.bands.proofs.nodes.passed.Reads as passed-reads
-use Rattle.text.proofs.wide.Reads as wide-reads
 
 abbrev Inv-loop : tie.InvT-loop
 Inv-loop here next ncols on₀ j₀ on j =
@@ -19,65 +16,50 @@ Inv-loop here next ncols on₀ j₀ on j =
 abbrev μ-loop : tie.MeasureT-loop
 μ-loop here next ncols on₀ j₀ on j = j
 
--- src/nodes.rt:54:9
 wide-requires : tie.Need-wide-requires Inv-loop μ-loop
 wide-requires c κs = search needs
 
--- src/nodes.rt:55:5
 loop-holds : tie.Need-loop-holds Inv-loop μ-loop
 loop-holds c =
     let e = c .wide .ensures in
     (search needs, refl, λ k l h. goes-none (c .before .args .here .now) (c .before .args .next .now) (c .before .args .ncols) k (omega arith) (omega arith) h)
 
--- src/nodes.rt:56:9
 sub-j : tie.Need-sub-j Inv-loop μ-loop
 sub-j c = search needs
 
--- src/nodes.rt:57:28
 mul-passed : tie.Need-mul-passed Inv-loop μ-loop
 mul-passed c = search needs
 
--- src/nodes.rt:57:28
 element-copy-out-passed : tie.Need-element-copy-out-passed Inv-loop μ-loop
 element-copy-out-passed c = search needs
 
--- src/nodes.rt:57:37
 mul-passed-2 : tie.Need-mul-passed-2 Inv-loop μ-loop
 mul-passed-2 c = search needs
 
--- src/nodes.rt:57:37
 element-copy-out-passed-2 : tie.Need-element-copy-out-passed-2 Inv-loop μ-loop
 element-copy-out-passed-2 c = search needs
 
--- src/nodes.rt:57:46
 mul-passed-3 : tie.Need-mul-passed-3 Inv-loop μ-loop
 mul-passed-3 c = search needs
 
--- src/nodes.rt:57:46
 array-read-passed : tie.Need-array-read-passed Inv-loop μ-loop
 array-read-passed c = search needs
 
--- src/nodes.rt:57:21
 passed-requires : tie.Need-passed-requires Inv-loop μ-loop
 passed-requires c κs = search needs
 
--- src/nodes.rt:57:12
 sub-on : tie.Need-sub-on Inv-loop μ-loop
 sub-on c = search needs
 
--- src/nodes.rt:57:9
 mul-on : tie.Need-mul-on Inv-loop μ-loop
 mul-on c = search needs
 
--- src/nodes.rt:57:9
 array-write-on : tie.Need-array-write-on Inv-loop μ-loop
 array-write-on c = search needs
 
--- src/nodes.rt:55:5
 loop-less : tie.Need-loop-less Inv-loop μ-loop
 loop-less c = search needs
 
--- src/nodes.rt:55:5
 loop-again : tie.Need-loop-again Inv-loop μ-loop
 loop-again c =
     let s = c .before .before .before .before .before .before in
@@ -87,7 +69,6 @@ loop-again c =
       goes-more (s .args .here .now) (s .args .next .now) (l .on) (s .args .ncols) (l .j) (c .passed .result) (omega arith) (omega arith) (omega arith) (l .inv .1) (l .inv .2) (c .passed .ensures),
     )
 
--- src/nodes.rt:49:1
 returns : tie.Need-returns Inv-loop μ-loop
 returns c = λ j h. c .before .loop .inv .2 j (omega arith) h
 

@@ -1,23 +1,18 @@
+-- Each return is one case of the rule.
 use borrow.Author.Tests.{eq-eqb, ne-eqb}
 use Rattle.rules.specs.Base.{pick}
 use Rattle.bands.specs.Row.{passes}
-use borrow.Author.Needs.{needs}
 use Rattle.bands.proofs.nodes.passed.Statement.{statement}
 use Rattle.bands.proofs.nodes.passed.Tie as tie
-use Rattle.bands.proofs.nodes.passed.Reads as reads
-use Rattle.bands.proofs.nodes.passed.Lts as lts
 
--- src/nodes.rt:40:9
 returns : tie.Need-returns
 unfolding passes pick
 returns c = rw (ne-eqb _ _ (c .if1 .taken))
 
--- src/nodes.rt:43:9
 returns-2 : tie.Need-returns-2
 unfolding passes pick
 returns-2 c = rw (eq-eqb _ _ (c .before .if1 .left), ne-eqb _ _ (c .if2 .taken))
 
--- src/nodes.rt:36:1
 returns-3 : tie.Need-returns-3
 unfolding passes pick
 returns-3 c = rw (eq-eqb _ _ (c .before .if1 .left), eq-eqb _ _ (c .if2 .left))

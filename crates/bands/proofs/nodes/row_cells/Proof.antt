@@ -1,3 +1,4 @@
+-- After k nodes the list is that of the first k nodes; a turn writes one entry.
 use mathlib.Core.Path.{_≡_, refl}
 use Prim.Native.Nat.{_≤_, _-_}
 use native.Mathlib.Omega.{arith}
@@ -7,10 +8,6 @@ use Rattle.bands.proofs.Entries.{nodes-more}
 use borrow.Author.Needs.{needs}
 use Rattle.bands.proofs.nodes.row_cells.Statement.{statement}
 use Rattle.bands.proofs.nodes.row_cells.Tie as tie
-use Rattle.bands.proofs.nodes.row_cells.Reads as reads
-use Rattle.bands.proofs.nodes.row_cells.Lts as lts
-use Rattle.bands.proofs.nodes.choose.Reads as choose-reads
-use Rattle.text.proofs.wide.Reads as wide-reads
 
 abbrev Inv-loop : tie.InvT-loop
 Inv-loop table nodes column under here₀ k₀ here k = (k ≤ nodes) × (here ≡ nodesIn table column under k)
@@ -18,73 +15,56 @@ Inv-loop table nodes column under here₀ k₀ here k = (k ≤ nodes) × (here �
 abbrev μ-loop : tie.MeasureT-loop
 μ-loop table nodes column under here₀ k₀ here k = nodes - k
 
--- src/nodes.rt:27:5
 loop-holds : tie.Need-loop-holds Inv-loop μ-loop
 unfolding nodesIn
 loop-holds c = (search needs, refl)
 
--- src/nodes.rt:28:28
 mul-wide : tie.Need-mul-wide Inv-loop μ-loop
 mul-wide c = search needs
 
--- src/nodes.rt:28:28
 element-copy-out-wide : tie.Need-element-copy-out-wide Inv-loop μ-loop
 element-copy-out-wide c = search needs
 
--- src/nodes.rt:28:13
 wide-requires : tie.Need-wide-requires Inv-loop μ-loop
 wide-requires c κs = search needs
 
--- src/nodes.rt:29:32
 mul-choose : tie.Need-mul-choose Inv-loop μ-loop
 mul-choose c = search needs
 
--- src/nodes.rt:29:26
 mul-choose-2 : tie.Need-mul-choose-2 Inv-loop μ-loop
 mul-choose-2 c = search needs
 
--- src/nodes.rt:29:26
 shared-slice-read-choose : tie.Need-shared-slice-read-choose Inv-loop μ-loop
 shared-slice-read-choose c = search needs
 
--- src/nodes.rt:29:26
 add-choose : tie.Need-add-choose Inv-loop μ-loop
 unfolding depthIn
 add-choose c = record { fits = omega (arith, c .before .before .before .before .before .before .pre .1 (c .before .before .before .before .loop .k) (omega arith) .0) }
 
--- src/nodes.rt:29:53
 add-choose-2 : tie.Need-add-choose-2 Inv-loop μ-loop
 add-choose-2 c = search needs
 
--- src/nodes.rt:29:60
 mul-choose-3 : tie.Need-mul-choose-3 Inv-loop μ-loop
 mul-choose-3 c = record { fits = omega (arith, c .before .before .before .before .before .before .pre .1 (c .before .before .before .before .loop .k) (omega arith) .1) }
 
--- src/nodes.rt:29:60
 array-read-choose : tie.Need-array-read-choose Inv-loop μ-loop
 array-read-choose c = omega (arith, c .before .before .before .before .before .before .pre .1 (c .before .before .before .before .loop .k) (omega arith) .1)
 
--- src/nodes.rt:29:19
 choose-requires : tie.Need-choose-requires Inv-loop μ-loop
 choose-requires c κs = search needs
 
--- src/nodes.rt:29:9
 mul-here : tie.Need-mul-here Inv-loop μ-loop
 mul-here c = record { fits = omega (arith, c .before .before .before .before .before .before .before .pre .1 (c .before .before .before .before .before .loop .k) (omega arith) .1) }
 
--- src/nodes.rt:29:9
 array-write-here : tie.Need-array-write-here Inv-loop μ-loop
 array-write-here c = omega (arith, c .before .before .before .before .before .before .before .pre .1 (c .before .before .before .before .before .loop .k) (omega arith) .1)
 
--- src/nodes.rt:30:9
 add-k : tie.Need-add-k Inv-loop μ-loop
 add-k c = search needs
 
--- src/nodes.rt:27:5
 loop-less : tie.Need-loop-less Inv-loop μ-loop
 loop-less c = search needs
 
--- src/nodes.rt:27:5
 loop-again : tie.Need-loop-again Inv-loop μ-loop
 unfolding depthIn
 loop-again c =
@@ -92,7 +72,6 @@ loop-again c =
     let l = c .before .before .before .before .before .loop in
     (search needs, nodes-more (s .args .table .now) (s .args .column .now) (s .args .under) (l .k) (c .before .before .wide .result) (c .choose .result) (l .here) (l .inv .1) (c .before .before .wide .ensures) (c .choose .ensures))
 
--- src/nodes.rt:20:1
 returns : tie.Need-returns Inv-loop μ-loop
 returns c =
     let e : c .before .loop .k ≡ c .before .before .before .args .nodes = omega arith in
