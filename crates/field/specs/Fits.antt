@@ -4,6 +4,7 @@ use mathlib.Core.Bool.{true}
 use mathlib.Core.List.{List}
 use Prim.Native.Nat.{ℕ, _+_, _*_, _≤_, _<_}
 use lib.ListN.{getD}
+use Rattle.rules.specs.Drawing.{boxes}
 use Rattle.marks.specs.Spot as Rules
 use Rattle.field.specs.declared.spot.Spot.{Spot}
 
@@ -24,6 +25,10 @@ plain s =
 -- the mark at (x, y) of cells that lie row by row
 abbrev pub markIn : List ℕ → ℕ → ℕ → ℕ → ℕ
 markIn cells width x y = getD cells (y * width + x) 0
+
+-- the mark that a spot has there, the letters of a title being those of the cells
+abbrev pub spotIn : List ℕ → ℕ → Spot → ℕ → ℕ → ℕ
+spotIn cells width s x y = Rules.spotMark boxes (plain s) (markIn cells width x y) x y
 
 -- a box of one line at least in the rows from top on, before the bend and before the end
 pub record Stands (s : Spot) (top end : ℕ) : Type 0 where
