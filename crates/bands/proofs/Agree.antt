@@ -1,19 +1,18 @@
 -- The picture and the drawing agree on all bands when they do column by column and row by row.
 use mathlib.Core.Path.{_≡_, refl, ap, sym, _∙_}
 use mathlib.Core.List.{List}
-use mathlib.Core.Bool.{Bool, true, false, _&&_, false≢true}
+use mathlib.Core.Bool.{Bool, true, false, false≢true}
 use Prim.Native.Nat.{ℕ, suc, zero, _+_, _-_, _*_, _≤_, _<_}
 use native.Mathlib.Nat.{mul-comm, mul-le-mul-right}
 use native.Mathlib.Numerals.{add-one}
 use native.Mathlib.Omega.{arith}
-use lib.Dec.{ltb}
 use lib.ListN.{length, getD}
 use borrow.Author.Tests.{lt-ltb}
 use Rattle.rules.specs.Measures as M
 use Rattle.rules.specs.Base.{pick}
 use Rattle.rules.specs.Plan.{Node, depthIn}
-use Rattle.rules.specs.Levels.{View, view}
-use Rattle.rules.specs.Measures.{rowOffset, columnOffset, canvasWidth, canvasHeight}
+use Rattle.rules.specs.Levels.{view}
+use Rattle.rules.specs.Measures.{rowOffset, columnOffset}
 use Rattle.rules.specs.Drawing.{boxes}
 use Rattle.rules.proofs.Bounds.{column-below}
 use Rattle.marks.specs.Alike.{alikeIn}
@@ -28,13 +27,13 @@ use Rattle.sight.specs.Seen.{seen}
 use Rattle.tree_view.proofs.Limits.{columns-le, canvas-height-le}
 use Rattle.tree_view.proofs.Ruled.{view-columns}
 use Rattle.bands.specs.declared.row.Row.{Row}
-use Rattle.bands.specs.Row.{endIn, RowOf}
+use Rattle.bands.specs.Row.{RowOf}
 use Rattle.bands.specs.Strip.{spotIn, stripSame, stripsSame}
 use Rattle.bands.specs.Parts.{columnFrom, rowFrom}
 use Rattle.bands.specs.Ready.{Ready}
 use Rattle.bands.proofs.Ranges.{column-part, row-part, column-stop, row-stop, row-bends, column-last, row-last}
 use Rattle.bands.proofs.Strips.{strips-none, strips-next}
-use Rattle.bands.proofs.Spots.{spotted, apt}
+use Rattle.bands.proofs.Spots.{spotted}
 
 pub seen-at : (cells : List ℕ) (w h x y : ℕ) → x < w → y < h → seen cells w h x y ≡ getD cells (y * w + x) 0
 unfolding seen pick

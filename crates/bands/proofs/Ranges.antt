@@ -1,20 +1,20 @@
 -- The parts of a canvas by the arrays that hold its numbers: where columns and rows begin and end, and where a row's lines bend.
-use mathlib.Core.Path.{_≡_, refl, ap, sym, _∙_}
+use mathlib.Core.Path.{_≡_, ap, _∙_}
 use mathlib.Core.List.{List}
-use Prim.Native.Nat.{ℕ, suc, zero, _+_, _-_, _*_, _/_, _≤_, _<_}
+use Prim.Native.Nat.{ℕ, suc, _+_, _-_, _/_, _≤_, _<_}
 use native.Mathlib.Numerals.{add-one}
 use native.Mathlib.Decide.{decLe}
 use native.Mathlib.Omega.{arith}
-use lib.ListN.{length, getD}
+use lib.ListN.{length}
 use borrow.Author.Tests.{lt-ltb, le-ltb}
 use Rattle.rules.specs.Measures as M
-use Rattle.rules.specs.Base.{pick, total}
+use Rattle.rules.specs.Base.{pick}
 use Rattle.rules.specs.Levels.{View}
 use Rattle.rules.specs.Measures.{width, height, columnOffset, rowOffset, canvasWidth, canvasHeight}
 use Rattle.rules.specs.Drawing.{boxes}
 use Rattle.marks.specs.Numbers.{Numbers}
-use Rattle.marks.proofs.Columns.{left-suc, left-after, left-total}
-use Rattle.marks.proofs.Places.{Proper, top-suc, top-after, column, row}
+use Rattle.marks.proofs.Columns.{left-after, left-total}
+use Rattle.marks.proofs.Places.{top-suc, top-after, column, row}
 use Rattle.marks.proofs.Reading.{top-total}
 use Rattle.bands.specs.Row.{endIn, bendIn}
 use Rattle.bands.specs.Parts.{columnFrom, rowFrom}

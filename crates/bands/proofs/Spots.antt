@@ -1,9 +1,9 @@
 -- The spots that the arrays of a plan give are those of its view, and each has room in its column and its band.
 use mathlib.Core.Path.{_≡_, refl, ap, sym, _∙_}
-use mathlib.Core.List.{List, [], _∷_, _++_, List·Memᴰ, List·Memᴰ·head, List·Memᴰ·cases-cons, List·Memᴰ·not-nil, Memᴰ·append-left, Memᴰ·append-right}
-use mathlib.Core.Bool.{Bool, true, false, _&&_, _||_, not, false≢true}
+use mathlib.Core.List.{List, [], _∷_, List·Memᴰ, List·Memᴰ·head, List·Memᴰ·cases-cons, List·Memᴰ·not-nil, Memᴰ·append-left, Memᴰ·append-right}
+use mathlib.Core.Bool.{Bool, true, false, _&&_, not, false≢true}
 use mathlib.Core.Logic.{⊎-elim}
-use Prim.Native.Nat.{ℕ, suc, zero, _+_, _-_, _*_, _/_, _^_, _≤_, _<_}
+use Prim.Native.Nat.{ℕ, suc, zero, _+_, _-_, _/_, _^_, _≤_, _<_}
 use native.Mathlib.Numerals.{add-one}
 use native.Mathlib.Decide.{ℕ-discrete}
 use native.Mathlib.Omega.{arith}
@@ -13,28 +13,26 @@ use borrow.Author.Tests.{eq-eqb, ne-eqb}
 use Rattle.rules.specs.Measures as M
 use Rattle.rules.specs.Base.{pick, each, halfUp}
 use Rattle.rules.specs.Plan.{Node, nodeAt, depthAt}
-use Rattle.rules.specs.Levels.{Cell, View, shown, columnAt, cellAt, view, inRow}
+use Rattle.rules.specs.Levels.{Cell, shown, columnAt, cellAt, view, inRow}
 use Rattle.rules.specs.Measures.{width, height, columnOffset, rowOffset}
-use Rattle.rules.specs.Drawing.{boxes, boxLeft, boxTop, boxRight, boxBottom}
+use Rattle.rules.specs.Drawing.{boxes}
 use Rattle.rules.proofs.Lists.{mem-keep}
 use Rattle.levels.specs.Between.{cellOf}
 use Rattle.marks.specs.Joint.{Joint, atColumn, jointOf}
-use Rattle.marks.specs.Spot.{Spot}
-use Rattle.marks.proofs.Places.{Proper, mem-inRow}
+use Rattle.marks.proofs.Places.{mem-inRow}
 use Rattle.marks.proofs.Keystone.{chain-of}
 use Rattle.marks.proofs.Joined.{upTo, By-tests, joint-tests}
 use Rattle.marks.proofs.Picture.{Laid, laid}
 use Rattle.marks.proofs.Spots.{upOf, Boxed, Spotted}
-use Rattle.tree_view.specs.Box.{leftOf, topOf, rightOf, bottomOf}
 use Rattle.tree_view.specs.Measured.{linesAt, longestAt}
 use Rattle.tree_view.proofs.Boxes.{cell-at, cell-lines, node-left, node-right, node-top, node-bottom}
 use Rattle.tree_view.proofs.Nodes.{longest-at-le, lines-at-le}
 use Rattle.tree_view.proofs.Limits.{fits-width, fits-height, cx-le, cy-le, columns-le}
 use Rattle.bands.specs.declared.row.Row.{Row}
 use Rattle.bands.specs.Row.{nodesIn, some, seenTo, goesIn, endIn, RowOf}
-use Rattle.bands.specs.Strip.{sizeOf, spotIn, Within, Room, Apt}
+use Rattle.bands.specs.Strip.{sizeOf, spotIn, Room, Apt}
 use Rattle.bands.specs.Ready.{Ready}
-use Rattle.bands.proofs.Tests.{On, some-at, on-at, none-above, seen-up, goes-on}
+use Rattle.bands.proofs.Tests.{or-yes, On, some-at, on-at, none-above, seen-up, goes-on}
 use Rattle.bands.proofs.Ranges.{Column-part, Row-part, column-part, row-part, column-stop, row-stop, row-bends}
 
 -- ---- a cell of a row in a column
@@ -43,12 +41,8 @@ unfolding atColumn
 at-mem j [] c m e = absurd (List·Memᴰ·not-nil m)
 at-mem j (b ∷ ps) c m e =
     ⊎-elim (λ (q : c ≡ b). rw (eq-eqb (b .column) j (ap (λ (d : Cell). d .column) (sym q) ∙ e)))
-    (λ (n : List·Memᴰ c ps). rw (at-mem j ps c n e) (yes (eqb (b .column) j)))
+    (λ (n : List·Memᴰ c ps). rw (at-mem j ps c n e) (or-yes (eqb (b .column) j)))
     (List·Memᴰ·cases-cons m)
-  where
-    yes : (s : Bool) → (s || true) ≡ true
-    yes true = refl
-    yes false = refl
 
 joint-equal : (q : Joint) (a b c : Bool) → q .parent ≡ a → q .child ≡ b → q .on ≡ c → _≡_ {A = Joint} (record { parent = a; child = b; on = c }) q
 joint-equal q a b c e f g = rw (← e, ← f, ← g)

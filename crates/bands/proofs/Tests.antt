@@ -3,13 +3,12 @@ use mathlib.Core.Path.{_≡_, refl, ap, sym, _∙_}
 use mathlib.Core.List.{List, [], _∷_, _++_, List·Memᴰ}
 use mathlib.Core.Bool.{Bool, true, false, _&&_, _||_, not}
 use Prim.Native.Nat.{ℕ, suc, zero, _+_, _-_, _≤_, _<_}
-use native.Mathlib.Numerals.{add-one}
 use native.Mathlib.Decide.{ℕ-discrete}
 use native.Mathlib.Omega.{arith}
 use lib.Dec.{eqb}
-use lib.ListN.{length, getD, set, replicate}
+use lib.ListN.{length, getD}
 use lib.Seq.{getD-set-same, getD-set-other}
-use borrow.Author.Tests.{eq-eqb, ne-eqb, eqb-true}
+use borrow.Author.Tests.{eq-eqb, ne-eqb}
 use Rattle.rules.specs.Base.{pick, keep, each}
 use Rattle.rules.specs.Plan.{Node, depthIn, nodeAt, depthAt}
 use Rattle.rules.specs.Levels.{Cell, shown, columnAt, cellAt, inRow}
@@ -17,7 +16,7 @@ use Rattle.rules.proofs.Keeps.{keep-append}
 use Rattle.levels.specs.Between.{cellOf}
 use Rattle.marks.specs.Joint.{atColumn}
 use Rattle.marks.proofs.Chains.{Chain}
-use Rattle.marks.proofs.Joined.{upTo}
+use Rattle.marks.proofs.Joined.{upTo, or-false}
 use Rattle.marks.proofs.Running.{up-zero, up-suc, onward, onward-suc, onward-last}
 use Rattle.tree_view.proofs.Sizes.{replicate-at}
 use Rattle.tree_view.proofs.Boxes.{cell-at}
@@ -34,11 +33,7 @@ at-append j (c ∷ l) m = go (at-append j l m) (eqb (c .column) j)
     go ih true = refl
     go ih false = ih
 
-or-no : (b : Bool) → (b || false) ≡ b
-or-no true = refl
-or-no false = refl
-
-or-yes : (b : Bool) → (b || true) ≡ true
+pub or-yes : (b : Bool) → (b || true) ≡ true
 or-yes true = refl
 or-yes false = refl
 
@@ -47,7 +42,7 @@ unfolding atColumn keep pick
 at-one j t c = go (t c)
   where
     go : (b : Bool) → atColumn j (pick b (c ∷ []) []) ≡ b && eqb (c .column) j
-    go true = or-no (eqb (c .column) j)
+    go true = or-false (eqb (c .column) j)
     go false = refl
 
 eqb-next : (a b : ℕ) → eqb (a + 1) (b + 1) ≡ eqb a b
@@ -110,7 +105,7 @@ module _ (p : List Node) (T C : List ℕ) (dep : (k : ℕ) → k < length p → 
       go : not (eqb (getD (nodesIn T C (i + 1) n) j 0) 0) ≡ atColumn j (keep (λ c. eqb (c .row) i) (each (cellAt p) n)) → (s : Bool)
           → not (eqb (pick s (suc n) (getD (nodesIn T C (i + 1) n) j 0)) 0) ≡ atColumn j (keep (λ c. eqb (c .row) i) (each (cellAt p) n)) || s
       go ih true = rw (ne-eqb (suc n) 0 (λ q. omega arith)) (sym (or-yes (atColumn j (keep (λ c. eqb (c .row) i) (each (cellAt p) n)))))
-      go ih false = ih ∙ sym (or-no (atColumn j (keep (λ c. eqb (c .row) i) (each (cellAt p) n))))
+      go ih false = ih ∙ sym (or-false (atColumn j (keep (λ c. eqb (c .row) i) (each (cellAt p) n))))
 
   -- and the entry is that node's
   pub on-at : (i j n : ℕ) → j < 256 → n ≤ length p → (getD (nodesIn T C (i + 1) n) j 0 ≡ 0 → ⊥) → On p i j n (getD (nodesIn T C (i + 1) n) j 0 - 1)

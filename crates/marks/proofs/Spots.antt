@@ -4,11 +4,11 @@ use mathlib.Core.Path.{_≡_, refl, ap, sym, _∙_}
 use mathlib.Core.List.{List, [], _∷_, List·Memᴰ, List·Memᴰ·head}
 use mathlib.Core.Bool.{Bool, true, false, _&&_, _||_, false≢true}
 use Prim.Native.Nat.{ℕ, suc, zero, _+_, _-_, _≤_, _<_}
-use native.Mathlib.Decide.{decLe, ℕ-discrete}
+use native.Mathlib.Decide.{decLe}
 use native.Mathlib.Omega.{arith}
 use lib.ListN.{length, getD, List·getD-eq-default}
 use lib.Dec.{leb, ltb, eqb}
-use borrow.Author.Tests.{eq-eqb, ne-eqb, eqb-true, eqb-false, lt-ltb, le-ltb, le-leb, lt-leb, leb-true}
+use borrow.Author.Tests.{ne-eqb, eqb-true, eqb-false, lt-ltb, le-ltb, le-leb, lt-leb, leb-true}
 use Rattle.rules.specs.Measures as M
 use Rattle.rules.specs.Drawing as D
 use Rattle.rules.specs.Base.{pick, keep}
@@ -17,7 +17,7 @@ use Rattle.rules.specs.Levels.{Cell, inRow, inColumn, View}
 use Rattle.rules.specs.Measures.{longest, height, width, rowOffset, columnOffset, linesIn}
 use Rattle.rules.specs.Drawing.{Marks, boxLeft, boxTop, boxRight, boxBottom}
 use Rattle.marks.specs.Lawful.{Lawful}
-use Rattle.marks.specs.Joint.{Joint, atColumn, joint, jointOf, footMark, headMark}
+use Rattle.marks.specs.Joint.{Joint, atColumn, joint, jointOf, headMark}
 use Rattle.marks.specs.Mark.{frameMark, boxMark, upMark, bandMark, fieldMark}
 use Rattle.marks.specs.Whole.{markAt}
 use Rattle.marks.specs.Spot.{Spot, ownMark, cellMark, spotMark}
