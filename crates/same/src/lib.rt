@@ -1,0 +1,1 @@
+// The canvas is the drawing of the plan that was gathered.
