@@ -1,4 +1,4 @@
--- What follows from a plan that was gathered: it may be drawn, its table is accepted, its lines are clean; and its letters stand where a
+-- What follows from a plan that was gathered: it may be drawn, its titles are valid and their lines clean; and its letters stand where a
 -- drawing has them, if the centres that are seen are the plan's.
 use mathlib.Core.Path.{_≡_, refl, ap, sym, _∙_}
 use mathlib.Core.List.{List, [], _∷_, map, List·Memᴰ}
@@ -12,23 +12,19 @@ use Rattle.rules.specs.Lines.{linesOf}
 use Rattle.rules.specs.Plan.{nodeAt, depthAt}
 use Rattle.rules.specs.Levels.{Cell, view, columnAt}
 use Rattle.rules.specs.Measures.{linesIn, lineCount, longest, cx, cy}
-use Rattle.rules.specs.Reader.{tableOf, titlesOf}
 use Rattle.rules.specs.Drawing.{boxLeft, boxTop}
 use Rattle.rules.proofs.Bounds.{Small}
 use Rattle.rules.proofs.Candidate.{from, trim, joined, lineAt, outside}
 use Rattle.rules.proofs.Scalars.{Scalar}
-use Rattle.levels.specs.Accepted.{Accepted}
 use Rattle.levels.specs.Between.{cellOf}
 use Rattle.marks.specs.Numbers.{Lettered}
-use Rattle.marks.proofs.Tests.{Drawable}
+use Rattle.marks.proofs.Tests.{Drawable, ruled}
 use Rattle.sight.specs.Seen.{seen}
 use Rattle.sight.specs.Plan.{planSeen}
 use Rattle.sight.proofs.Seen.{seen-all, seen-open}
 use Rattle.tree_view.specs.Measured.{linesAt, longestAt}
 use Rattle.tree_view.proofs.Laid.{at-whole}
-use Rattle.tree_view.proofs.Table.{small}
 use Rattle.same.specs.Given.{Given}
-use Rattle.same.proofs.Tables.{plan-table, accepted-table}
 use Rattle.same.proofs.Letters.{block, length-block, block-split, block-valid, block-clean, block-at, line-letter}
 use Rattle.same.proofs.Titled.{lines-of, node-of, longest-of}
 
@@ -61,17 +57,12 @@ module _ {cells : List ℕ} {w h nodes : ℕ} {rows table middle lines most : Li
         ap linesOf title-there
         ∙ block-split (seen cells w h) closed-marks scalar-marks (left k) (top k) (getD lines k 0) (getD most k 0) (v .gathered .placed k b .3)
 
-    title-valid : valid (nodeAt (planSeen cells w h) k .title) ≡ true
+    pub title-valid : valid (nodeAt (planSeen cells w h) k .title) ≡ true
     title-valid =
         ap valid title-there ∙ block-valid (seen cells w h) closed-marks scalar-marks (left k) (top k) (getD lines k 0) (getD most k 0)
 
     pub title-some : 1 ≤ length (nodeAt (planSeen cells w h) k .title)
     title-some = v .gathered .titled k b .0
-
-  pub accepted : Accepted (tableOf (planSeen cells w h)) (titlesOf (planSeen cells w h))
-  accepted =
-      accepted-table (planSeen cells w h) (omega (arith, v .gathered .few, v .gathered .counted)) (v .depths)
-      (λ k l. v .gathered .titled k (b k l) .1) title-valid
 
   pub drawable : Drawable (planSeen cells w h)
   drawable = record {
@@ -81,7 +72,11 @@ module _ {cells : List ℕ} {w h nodes : ℕ} {rows table middle lines most : Li
   }
 
   pub limits : Small (planSeen cells w h)
-  limits = rw (plan-table (planSeen cells w h)) at (small accepted)
+  limits = record {
+    nodes = drawable .sized;
+    depths = ruled (planSeen cells w h) drawable .levels;
+    titles = λ k l. v .gathered .titled k (b k l) .1;
+  }
 
   -- the lines of its cells are such as a reader finds
   pub clean : (c : Cell) → List·Memᴰ c (view (planSeen cells w h) .cells) → (l : List ℕ) → List·Memᴰ l (linesIn c)

@@ -1,22 +1,16 @@
 -- A plan's table and title bytes give the plan back: the table has three numbers for each node, and each title lies where the titles before it end.
 use mathlib.Core.Path.{_≡_, refl, ap, sym, _∙_}
 use mathlib.Core.List.{List, [], _∷_, _++_}
-use mathlib.Core.Bool.{true, false}
 use Prim.Native.Nat.{ℕ, suc, zero, _+_, _*_, _≤_, _<_}
 use native.Mathlib.Nat.{not-suc-le-zero, add-zero}
 use native.Mathlib.Decide.{decLe}
 use native.Mathlib.Omega.{arith}
-use borrow.Author.Tests.{le-ltb}
 use lib.ListN.{length, getD, take, drop, length-append, List·getD-append}
 use lib.Seq.{getD-append-add, take-append-seam, drop-append-add, ext-getD}
-use Rattle.rules.specs.Base.{each, total, concat, first}
-use Rattle.rules.specs.Utf8.{valid}
+use Rattle.rules.specs.Base.{each, total, concat}
 use Rattle.rules.specs.Plan.{Node, count, depthIn, startIn, sizeIn, titleIn, planOf, nodeAt}
-use Rattle.rules.specs.Numbers.{badDepth, badTitle, badUtf8}
 use Rattle.rules.specs.Reader.{tableOf, titlesOf}
 use Rattle.rules.proofs.Lists.{length-plan}
-use Rattle.levels.specs.Accepted.{Accepted}
-use Rattle.marks.proofs.Tests.{first-all}
 use Rattle.levels.proofs.Plans.{count-whole, nodeIn, node-plan}
 
 -- lists of three, one after another
@@ -81,14 +75,6 @@ titles-at (n ∷ p) (suc k) h =
     let z = total-head (λ i. length (nodeAt (n ∷ p) i .title)) k in
     rw (z, drop-append-add (n .title) (concat (λ (n : Node). n .title) p) (total (λ i. length (nodeAt p i .title)) k)) (titles-at p k (omega arith))
 
-pub titles-fit : (p : List Node) (k : ℕ) → k < length p → total (λ i. length (nodeAt p i .title)) k + length (nodeAt p k .title) ≤ length (titlesOf p)
-unfolding titlesOf concat nodeAt total
-titles-fit [] k h = absurd (not-suc-le-zero h)
-titles-fit (n ∷ p) zero h = omega (arith, length-append (n .title) (concat (λ (n : Node). n .title) p))
-titles-fit (n ∷ p) (suc k) h =
-    let z = total-head (λ i. length (nodeAt (n ∷ p) i .title)) k in
-    omega (arith, z, length-append (n .title) (concat (λ (n : Node). n .title) p), titles-fit p k (omega arith))
-
 node-equal : (d d′ : ℕ) (t t′ : List ℕ) → d ≡ d′ → t ≡ t′ → _≡_ {A = Node} (record { depth = d; title = t }) (record { depth = d′; title = t′ })
 node-equal d d′ t t′ e f = cc
 
@@ -108,25 +94,3 @@ module _ (p : List Node) where
   plan-table =
       let n : length (planOf (tableOf p) (titlesOf p)) ≡ length p = length-plan (tableOf p) (titlesOf p) ∙ count-table p in
       ext-getD (record { depth = 0; title = [] }) (planOf (tableOf p) (titlesOf p)) p n (λ k h. same-node k (omega arith))
-
--- at most 256 nodes with good depths, and titles that are short and valid: the table is accepted
-pub accepted-table : (p : List Node) → length p ≤ 256 → first (badDepth p) (length p) ≡ length p
-    → ((k : ℕ) → k < length p → length (nodeAt p k .title) ≤ 1024) → ((k : ℕ) → k < length p → valid (nodeAt p k .title) ≡ true)
-    → Accepted (tableOf p) (titlesOf p)
-unfolding badTitle badUtf8
-accepted-table p few deep short good =
-    let n = count-table p in
-    record {
-      whole = omega (arith, length-table p);
-      few = omega arith;
-      depths = λ k h. rw (plan-table p) (first-all (badDepth p) (length p) deep k (omega arith));
-      titles = λ k h.
-          (let l : k < length p = omega arith in
-          rw (
-            start-table p k l,
-            size-table p k l,
-            le-ltb (length (titlesOf p)) (total (λ i. length (nodeAt p i .title)) k + length (nodeAt p k .title)) (titles-fit p k l),
-            le-ltb 1024 (length (nodeAt p k .title)) (short k l),
-          ));
-      valids = λ k h. rw (plan-table p, good k (omega arith));
-    }

@@ -5,14 +5,19 @@ use mathlib.Core.Bool.{Bool, true, false}
 use Prim.Native.Nat.{ℕ, _*_, _≤_, _<_}
 use lib.ListN.{length, getD, take}
 use Rattle.rules.specs.Base.{first}
+use Rattle.rules.specs.Plan.{Node, depthIn, nodeAt, depthAt}
 use Rattle.rules.specs.Numbers.{badDepth}
-use Rattle.rules.specs.Levels.{view}
+use Rattle.rules.specs.Levels.{columnAt, view}
 use Rattle.rules.specs.Drawing.{boxes}
 use Rattle.rules.proofs.Candidate.{outside}
 use Rattle.rules.proofs.Scalars.{Scalar}
 use Rattle.marks.specs.Numbers.{Pictured}
 use Rattle.sight.specs.Seen.{seen}
 use Rattle.sight.specs.Plan.{planSeen}
+use Rattle.tree_view.specs.declared.widths.Columns.{Columns}
+use Rattle.tree_view.specs.declared.heights.Rows.{Rows}
+use Rattle.tree_view.specs.Measured.{linesAt, longestAt}
+use Rattle.tree_view.specs.Ruled.{ruledColumns, ruledRows}
 use Rattle.gather.specs.Gathered.{Gathered}
 
 -- the picture is the drawing of the plan that is seen in it
@@ -36,3 +41,21 @@ pub record Given (cells : List ℕ) (w h : ℕ) (rows table : List ℕ) (nodes :
   pub whole : List ℕ
   pub gathered : Gathered cells w h nodes bytes whole middle lines most
   pub table-is : table ≡ take (3 * nodes) whole
+
+-- the nodes' columns, and columns and rows, as the rules lay them for a plan
+pub record Laid (p : List Node) (column : List ℕ) (columns : Columns) (ncols : ℕ) (rows : Rows) (nrows : ℕ) : Type 0 where
+  pub placed : (k : ℕ) → k < length p → getD column k 0 ≡ columnAt p k
+  pub columns-are : columns ≡ ruledColumns (view p)
+  pub count-is : ncols ≡ view p .columns
+  pub rows-are : rows ≡ ruledRows (view p)
+  pub row-count-is : nrows ≡ view p .rows
+
+-- what is noted of a plan's nodes: their depths stand in the table, their columns, lines and longest lines in arrays; and none is without a title
+pub record Noted (p : List Node) (table : List ℕ) (nodes : ℕ) (column lines most : List ℕ) : Type 0 where
+  pub all : nodes ≡ length p
+  pub room : 3 * nodes ≤ length table
+  pub deep : (k : ℕ) → k < nodes → depthIn table k ≡ depthAt p k
+  pub placed : (k : ℕ) → k < nodes → getD column k 0 ≡ columnAt p k
+  pub lined : (k : ℕ) → k < nodes → getD lines k 0 ≡ linesAt p k
+  pub long : (k : ℕ) → k < nodes → getD most k 0 ≡ longestAt p k
+  pub titled : (k : ℕ) → k < nodes → 1 ≤ length (nodeAt p k .title)
