@@ -1,9 +1,8 @@
 -- Two runs compared one place at a time: all places so far agree, or one that differs refuses them.
 use mathlib.Core.Path.{_≡_, refl, _∙_}
-use mathlib.Core.Bool.{Bool, true, false, _&&_}
+use mathlib.Core.Bool.{Bool, true, false}
 use Prim.Native.Nat.{ℕ, _+_, _≤_, _<_}
 use native.Mathlib.Omega.{arith}
-use lib.Dec.{eqb}
 use borrow.Author.Tests.{eq-eqb}
 use Rattle.marks.specs.Alike.{alike}
 use Rattle.marks.proofs.Alike.{alike-more, alike-all}

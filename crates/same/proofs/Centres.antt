@@ -5,17 +5,16 @@ use mathlib.Core.List.{List, [], _∷_, map, List·Memᴰ, List·Memᴰ·eq-of-s
 use mathlib.Core.Bool.{Bool, true, false, _&&_}
 use Prim.Native.Nat.{ℕ, _+_, _*_, _≤_, _<_}
 use native.Mathlib.Omega.{arith}
-use native.Mathlib.Decide.{decLe}
 use lib.Dec.{ltb}
 use lib.ListN.{length, getD, length-map, List·getD-map}
 use borrow.Author.Tests.{le-ltb}
-use Rattle.rules.specs.Base.{pick, concat}
+use Rattle.rules.specs.Base.{pick}
 use Rattle.rules.specs.Plan.{Node, nodeAt, depthAt}
-use Rattle.rules.specs.Levels.{Cell, view, columnAt, columnsOf}
-use Rattle.rules.specs.Measures.{cx, cy, canvasWidth, canvasHeight}
+use Rattle.rules.specs.Levels.{Cell, view, columnAt}
+use Rattle.rules.specs.Measures.{cx, cy, canvasHeight}
 use Rattle.rules.specs.Drawing.{Marks, boxes}
 use Rattle.rules.proofs.Bounds.{column-below}
-use Rattle.rules.proofs.Candidate.{Outside, from, next, marked, outside, foundAt, bandOf, found, planFound}
+use Rattle.rules.proofs.Candidate.{Outside, from, outside, foundAt, found, planFound}
 use Rattle.levels.specs.Between.{cellOf}
 use Rattle.marks.proofs.Back.{nodeOf}
 use Rattle.marks.proofs.Ends.{lawful}

@@ -2,15 +2,14 @@
 -- not, the picture is not the plan's drawing.
 use mathlib.Core.Path.{_≡_, ap, sym, _∙_}
 use mathlib.Core.List.{List}
-use mathlib.Core.Bool.{Bool, true, false, false≢true}
-use Prim.Native.Nat.{ℕ, _≤_, _<_}
+use mathlib.Core.Bool.{true, false, false≢true}
+use Prim.Native.Nat.{ℕ, _<_}
 use native.Mathlib.Omega.{arith}
 use lib.ListN.{length, getD}
 use Rattle.rules.specs.Measures as M
 use Rattle.rules.specs.Plan.{depthAt}
 use Rattle.rules.specs.Levels.{columnAt, view}
 use Rattle.rules.proofs.Bounds.{column-below, row-below}
-use Rattle.rules.proofs.Candidate.{outside}
 use Rattle.marks.specs.Alike.{alike}
 use Rattle.marks.specs.Numbers.{Numbers, Lettered}
 use Rattle.marks.proofs.Alike.{alike-all, alike-if}

@@ -1,6 +1,6 @@
 -- The numbers of a plan that was gathered: what the table and the arrays are asked for, and that the answers are the rules' for that plan.
 -- The table's plan, whatever its title bytes, has the depths of the plan that is seen; the rest are the laws of `tree_view`.
-use mathlib.Core.Path.{_≡_, refl, ap, sym, _∙_}
+use mathlib.Core.Path.{_≡_, ap, sym, _∙_}
 use mathlib.Core.List.{List, []}
 use mathlib.Core.Bool.{Bool, _&&_}
 use Prim.Native.Nat.{ℕ, _+_, _*_, _-_, _^_, _≤_, _<_}

@@ -10,8 +10,8 @@ use Rattle.rules.specs.Numbers.{badDepth}
 use Rattle.rules.specs.Levels.{columnAt, view}
 use Rattle.rules.specs.Drawing.{boxes}
 use Rattle.rules.proofs.Candidate.{outside}
-use Rattle.rules.proofs.Scalars.{Scalar}
 use Rattle.marks.specs.Numbers.{Pictured}
+use Rattle.marks.proofs.Text.{Held}
 use Rattle.sight.specs.Seen.{seen}
 use Rattle.sight.specs.Plan.{planSeen}
 use Rattle.tree_view.specs.declared.widths.Columns.{Columns}
@@ -28,12 +28,11 @@ Drawn cells w h = Pictured boxes (view (planSeen cells w h)) (seen cells w h) w 
 abbrev pub Tells : Bool → Type 0 → Type 0
 Tells r P = (r ≡ true → P) × (r ≡ false → P → ⊥)
 
--- the cells of the picture can be encoded and hold no 0A; its plan has a node and good depths, and stands in the table; `rows` are the rows' centres that are seen
+-- the cells of the picture hold what a text can hold; its plan has a node and good depths, and stands in the table; `rows` are the rows' centres that are seen
 pub record Given (cells : List ℕ) (w h : ℕ) (rows table : List ℕ) (nodes : ℕ) (middle lines most : List ℕ) : Type 0 where
   pub fits : w * h ≤ length cells
   pub small : w * h ≤ 1048576
-  pub scalars : (k : ℕ) → k < w * h → Scalar (getD cells k 0)
-  pub closed : (k : ℕ) → k < w * h → getD cells k 0 ≡ 10 → ⊥
+  pub held : (k : ℕ) → k < w * h → Held (getD cells k 0)
   pub some : 0 < nodes
   pub depths : first (badDepth (planSeen cells w h)) (length (planSeen cells w h)) ≡ length (planSeen cells w h)
   pub rows-are : (i : ℕ) → i < outside (seen cells w h) w h .nr → getD rows i 0 ≡ outside (seen cells w h) w h .cy i

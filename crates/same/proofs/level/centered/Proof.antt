@@ -1,7 +1,7 @@
 -- The invariant: the nodes so far stand at their columns' centres.
 use mathlib.Core.Path.{_≡_, ap, sym, _∙_}
 use mathlib.Core.Bool.{true}
-use Prim.Native.Nat.{ℕ, _-_, _≤_}
+use Prim.Native.Nat.{_-_, _≤_}
 use native.Mathlib.Omega.{arith}
 use lib.ListN.{getD}
 use Rattle.marks.specs.Alike.{alike}
@@ -11,9 +11,6 @@ use Rattle.same.proofs.Agreed.{agree-more, agree-not}
 use borrow.Author.Needs.{needs}
 use Rattle.same.proofs.level.centered.Statement.{statement}
 use Rattle.same.proofs.level.centered.Tie as tie
-use Rattle.same.proofs.level.centered.Reads as reads
-use Rattle.same.proofs.level.centered.Lts as lts
-use Rattle.text.proofs.wide.Reads as wide-reads
 
 abbrev Inv-loop : tie.InvT-loop
 Inv-loop nodes column cx middle k₀ k = (k ≤ nodes) × (alike (λ j. getD middle j 0) (middleAt column cx) 0 k ≡ true)
@@ -21,43 +18,34 @@ Inv-loop nodes column cx middle k₀ k = (k ≤ nodes) × (alike (λ j. getD mid
 abbrev μ-loop : tie.MeasureT-loop
 μ-loop nodes column cx middle k₀ k = nodes - k
 
--- src/level.rt:20:5
 loop-holds : tie.Need-loop-holds Inv-loop μ-loop
 loop-holds c = (omega arith, alike-none _ _ 0 0 (omega arith))
 
--- src/level.rt:21:12
 mul-if1 : tie.Need-mul-if1 Inv-loop μ-loop
 mul-if1 c = search needs
 
--- src/level.rt:21:12
 element-copy-out-if1 : tie.Need-element-copy-out-if1 Inv-loop μ-loop
 element-copy-out-if1 c = search needs
 
--- src/level.rt:21:39
 mul-wide : tie.Need-mul-wide Inv-loop μ-loop
 mul-wide c = search needs
 
--- src/level.rt:21:39
 element-copy-out-wide : tie.Need-element-copy-out-wide Inv-loop μ-loop
 element-copy-out-wide c = search needs
 
--- src/level.rt:21:28
 wide-requires : tie.Need-wide-requires Inv-loop μ-loop
 wide-requires c κs = search needs
 
--- src/level.rt:21:25
 mul-if1-2 : tie.Need-mul-if1-2 Inv-loop μ-loop
 mul-if1-2 c =
     let s = c .before .before .before .before .before in
     record { fits = omega (arith, c .wide .ensures, s .pre .1 (c .before .before .before .before .loop .k) (omega arith)) }
 
--- src/level.rt:21:25
 element-copy-out-if1-2 : tie.Need-element-copy-out-if1-2 Inv-loop μ-loop
 element-copy-out-if1-2 c =
     let s = c .before .before .before .before .before in
     omega (arith, c .wide .ensures, s .pre .1 (c .before .before .before .before .loop .k) (omega arith))
 
--- src/level.rt:22:13
 returns : tie.Need-returns Inv-loop μ-loop
 returns c =
     let s = c .before .before .before .before .before .before .before .args in
@@ -66,15 +54,12 @@ returns c =
     (agree-not (λ k. getD (s .middle .now) k 0) (middleAt (s .column .now) (s .cx .now)) 0 (s .nodes) (l .k) (omega arith) (search needs)
     (λ e. c .if1 .taken (e ∙ ap (λ j. getD (s .cx .now) j 0) (sym (c .before .before .wide .ensures)))))
 
--- src/level.rt:24:9
 add-k : tie.Need-add-k Inv-loop μ-loop
 add-k c = search needs
 
--- src/level.rt:20:5
 loop-less : tie.Need-loop-less Inv-loop μ-loop
 loop-less c = search needs
 
--- src/level.rt:20:5
 loop-again : tie.Need-loop-again Inv-loop μ-loop
 loop-again c =
     let s = c .before .before .before .before .before .before .before .args in
@@ -84,7 +69,6 @@ loop-again c =
           (c .if1 .left ∙ ap (λ j. getD (s .cx .now) j 0) (c .before .before .wide .ensures)),
     )
 
--- src/level.rt:9:1
 returns-2 : tie.Need-returns-2 Inv-loop μ-loop
 returns-2 c =
     let l = c .before .loop in

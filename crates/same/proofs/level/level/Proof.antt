@@ -1,7 +1,7 @@
 -- The invariant: the centres so far are the same.
 use mathlib.Core.Path.{_≡_, sym}
 use mathlib.Core.Bool.{true}
-use Prim.Native.Nat.{ℕ, _-_, _≤_}
+use Prim.Native.Nat.{_-_, _≤_}
 use native.Mathlib.Omega.{arith}
 use lib.ListN.{getD}
 use Rattle.marks.specs.Alike.{alike}
@@ -10,9 +10,6 @@ use Rattle.same.proofs.Agreed.{agree-more, agree-not}
 use borrow.Author.Needs.{needs}
 use Rattle.same.proofs.level.level.Statement.{statement}
 use Rattle.same.proofs.level.level.Tie as tie
-use Rattle.same.proofs.level.level.Reads as reads
-use Rattle.same.proofs.level.level.Lts as lts
-use Rattle.text.proofs.wide.Reads as wide-reads
 
 abbrev Inv-loop : tie.InvT-loop
 Inv-loop count seen cy n i₀ i = (i ≤ n) × (alike (λ k. getD seen k 0) (λ k. getD cy k 0) 0 i ≡ true)
@@ -20,31 +17,24 @@ Inv-loop count seen cy n i₀ i = (i ≤ n) × (alike (λ k. getD seen k 0) (λ 
 abbrev μ-loop : tie.MeasureT-loop
 μ-loop count seen cy n i₀ i = n - i
 
--- src/level.rt:34:9
 wide-requires : tie.Need-wide-requires Inv-loop μ-loop
 wide-requires c κs = search needs
 
--- src/level.rt:36:5
 loop-holds : tie.Need-loop-holds Inv-loop μ-loop
 loop-holds c = (omega arith, alike-none _ _ 0 0 (omega arith))
 
--- src/level.rt:37:12
 mul-if1 : tie.Need-mul-if1 Inv-loop μ-loop
 mul-if1 c = search needs
 
--- src/level.rt:37:12
 element-copy-out-if1 : tie.Need-element-copy-out-if1 Inv-loop μ-loop
 element-copy-out-if1 c = search needs
 
--- src/level.rt:37:23
 mul-if1-2 : tie.Need-mul-if1-2 Inv-loop μ-loop
 mul-if1-2 c = search needs
 
--- src/level.rt:37:23
 element-copy-out-if1-2 : tie.Need-element-copy-out-if1-2 Inv-loop μ-loop
 element-copy-out-if1-2 c = search needs
 
--- src/level.rt:38:13
 returns : tie.Need-returns Inv-loop μ-loop
 returns c =
     let s = c .before .before .before .before .before .before .args in
@@ -52,22 +42,18 @@ returns c =
     sym
     (agree-not (λ k. getD (s .seen .now) k 0) (λ k. getD (s .cy .now) k 0) 0 (s .count) (l .i) (omega arith) (search needs) (λ e. c .if1 .taken e))
 
--- src/level.rt:40:9
 add-i : tie.Need-add-i Inv-loop μ-loop
 add-i c = search needs
 
--- src/level.rt:36:5
 loop-less : tie.Need-loop-less Inv-loop μ-loop
 loop-less c = search needs
 
--- src/level.rt:36:5
 loop-again : tie.Need-loop-again Inv-loop μ-loop
 loop-again c =
     let s = c .before .before .before .before .before .before .args in
     let l = c .before .before .before .before .loop in
     (search needs, agree-more (λ k. getD (s .seen .now) k 0) (λ k. getD (s .cy .now) k 0) (l .i) (l .inv .1) (c .if1 .left))
 
--- src/level.rt:30:1
 returns-2 : tie.Need-returns-2 Inv-loop μ-loop
 returns-2 c =
     let l = c .before .loop in
