@@ -1,17 +1,17 @@
 -- A row compared part by part: what a run of one mark, a row of lines, a border and a line of text ask for.
 -- Each law splits the row where its marks change.
-use mathlib.Core.Path.{_≡_, refl, ap, sym, _∙_}
+use mathlib.Core.Path.{_≡_, refl, sym, _∙_}
 use mathlib.Core.List.{List}
 use mathlib.Core.Bool.{Bool, true, false, _&&_}
 use Prim.Native.Nat.{ℕ, suc, zero, _+_, _-_, _≤_, _<_}
 use native.Mathlib.Omega.{arith}
-use lib.Dec.{eqb, ltb}
+use lib.Dec.{eqb}
 use lib.ListN.{getD}
 use borrow.Author.Tests.{lt-ltb, le-ltb, eq-eqb, ne-eqb}
 use Rattle.rules.specs.Base.{pick, every}
 use Rattle.rules.proofs.Candidate.{from}
 use Rattle.rules.specs.Drawing.{boxes}
-use Rattle.marks.specs.Alike.{alike, alikeIn}
+use Rattle.marks.specs.Alike.{alike}
 use Rattle.marks.proofs.Alike.{alike-none, alike-first, alike-split, alike-one, alike-same, alike-if}
 use Rattle.field.specs.declared.shape.Wire.{Wire}
 use Rattle.field.specs.declared.shape.Edge.{Edge}

@@ -1,15 +1,15 @@
 -- What stands at a spot, row by row: the marks of its rows are those of the shapes.
-use mathlib.Core.Path.{_≡_, refl, ap, sym, _∙_}
+use mathlib.Core.Path.{_≡_, refl, sym, _∙_}
 use mathlib.Core.Bool.{Bool, true, false, _&&_, _||_}
-use Prim.Native.Nat.{ℕ, suc, zero, _+_, _-_, _≤_, _<_}
+use Prim.Native.Nat.{ℕ, suc, _+_, _≤_, _<_}
 use native.Mathlib.Omega.{arith}
 use native.Mathlib.Decide.{ℕ-discrete, decLe}
 use lib.Dec.{eqb, ltb, leb}
 use borrow.Author.Tests.{lt-ltb, le-ltb, eq-eqb, ne-eqb, le-leb, lt-leb, eqb-true}
 use Rattle.rules.specs.Base.{pick}
-use Rattle.rules.specs.Drawing.{Marks, boxes}
+use Rattle.rules.specs.Drawing.{boxes}
 use Rattle.rules.proofs.CharsBack.{both}
-use Rattle.marks.specs.Joint.{Joint, bendMark, footMark, barMark, rootMark}
+use Rattle.marks.specs.Joint.{bendMark, footMark, barMark, rootMark}
 use Rattle.marks.specs.Spot.{Spot, ownMark, cellMark, spotMark}
 use Rattle.marks.proofs.Alike.{and-yes}
 use Rattle.field.specs.declared.shape.Wire.{Wire}

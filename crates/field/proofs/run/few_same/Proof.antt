@@ -1,7 +1,6 @@
 -- The invariant: the run from `from` on is all one mark where the run from k on is. Each turn is one cell.
 use Prim.Native.Nat.{_-_}
 use mathlib.Core.Path.{_≡_, refl, sym, _∙_}
-use native.Mathlib.Omega.{arith}
 use lib.ListN.{getD}
 use Rattle.marks.specs.Alike.{alike}
 use Rattle.field.proofs.Runs.{run-end, run-past, run-stop}
