@@ -1,0 +1,2 @@
+// The reader of pictures.
+mod give;
