@@ -1,3 +1,9 @@
 pub mod Tables
 pub mod Stored
 pub mod Giving
+pub mod OnCanvas
+pub mod Compared
+pub mod Titled
+pub mod Fitting
+pub mod Theorems
+pub mod Promised
