@@ -14,10 +14,10 @@ use Rattle.rules.specs.declared.Reading.{Reading}
 use Rattle.rules.proofs.Candidate.{from, joined, lineAt}
 use Rattle.sight.specs.Seen.{seen}
 use Rattle.sight.specs.Plan.{planSeen}
-use Rattle.picture.specs.Given.{Given, Stands, Delivers}
+use Rattle.picture.specs.Standing.{Standing, Stands, Delivers}
 use Rattle.picture.proofs.Tables.{titlesTo, table-length, titles-fit}
 
-module _ (cells : List ℕ) (w h nodes : ℕ) (table cy middle lines most : List ℕ) (gv : Given cells w h nodes table cy middle lines most) (k : ℕ) (b : k < nodes) where
+module _ (cells : List ℕ) (w h nodes : ℕ) (table cy middle lines most : List ℕ) (gv : Standing cells w h nodes table cy middle lines most) (k : ℕ) (b : k < nodes) where
   pub entry-in : 3 * k < length table
   entry-in = omega (arith, ap length (gv .table-is), table-length (planSeen cells w h), gv .counted)
 

@@ -2,26 +2,30 @@
 use mathlib.Core.Path.{_≡_, refl, ap, sym, _∙_}
 use mathlib.Core.List.{List, [], _∷_}
 use mathlib.Core.Bool.{Bool, true, false}
-use Prim.Native.Nat.{ℕ, _≤_, _<_}
+use Prim.Native.Nat.{ℕ, _-_, _*_, _≤_, _<_}
+use native.Mathlib.Nat.{mul-le-mul-left, mul-le-mul-right}
 use native.Mathlib.Omega.{arith}
 use lib.Dec.{eqb}
-use lib.ListN.{length}
+use lib.ListN.{length, take}
 use borrow.Author.Tests.{ne-eqb}
 use Rattle.rules.specs.Base.{pick}
+use Rattle.rules.specs.Utf8.{points}
 use Rattle.rules.specs.Plan.{Node}
 use Rattle.rules.specs.Numbers.{readerNumber}
 use Rattle.rules.specs.Drawing.{boxes}
 use Rattle.rules.specs.Reader.{Found, plan, nothing, pictureLines, pictureWidth, placed, canvasRead, tableOf, titlesOf, delivered, reading, writtenBy, Draws, Right, Reads}
 use Rattle.rules.specs.declared.Reading.{Reading}
 use Rattle.rules.proofs.Candidate.{reads}
+use Rattle.rules.proofs.Lines.{linesOf-some}
 use Rattle.marks.proofs.Reader.{reads-right-boxes}
 use Rattle.lay.specs.Spaced.{spaced}
 use Rattle.lay.specs.Started.{Started, started}
-use Rattle.lay.proofs.Refusals.{reading-started, passed, stopped, not-there}
+use Rattle.lay.proofs.Refusals.{reading-started, passed, stopped, put-there, not-there}
 use Rattle.sight.specs.Plan.{planSeen}
-use Rattle.picture.specs.Given.{Delivers}
-use Rattle.picture.specs.Answered.{Accepted, Refused, Answered, refused, accepted}
-use Rattle.picture.proofs.Theorems.{accepted-is-drawn, undrawn-is-none}
+use Rattle.picture.specs.Standing.{Delivers}
+use Rattle.picture.specs.Answered.{Picture, Accepted, Refused, Answered, refused, accepted}
+use Rattle.picture.proofs.OnCanvas.{held-cells, cells-there, cells-few}
+use Rattle.picture.proofs.Theorems.{accepted-is-drawn, undrawn-is-none, spaced-is-none, empty-is-none}
 
 -- only done writes
 unwritten : (part : List Node → List ℕ) (f : Found) (r : Reading) (old : List ℕ) → 1 ≤ readerNumber r → old ≡ writtenBy part f r old
@@ -45,7 +49,26 @@ module _ (P old table titles new : List ℕ) (answer : Reading) (lines width : �
         titles-left = unwritten titlesOf f answer titles n;
       }
 
+  -- or none: the picture is there
+  pub passes : readerNumber answer ≡ 0 → placed P (length old) ≡ true
+  passes n = put-there P (length old) (rw (st .answered) at n)
+
   module _ (h : placed P (length old) ≡ true) where
+    -- with cells enough, and not too many
+    pub picture-there : 1 ≤ width → Picture new width lines
+    picture-there s =
+        let w = st .wide h in
+        let l = st .high h in
+        let some : 1 ≤ length (pictureLines P) = unfold pictureLines in linesOf-some (points (take (length P - 1) P)) in
+        let few = rw (← w, ← l) at (cells-few P old h) in
+        record {
+          fits = rw (st .left, w, l) (cells-there P old h);
+          small = few;
+          wide = omega (arith, mul-le-mul-left {m = 1} {n = lines} width (omega (arith, some)));
+          high = omega (arith, mul-le-mul-right {m = 1} {n = width} lines s);
+          held = rw (st .left, w, l) (held-cells P old h);
+        }
+
     told : (f : Found) → reading P f (length old) (length table) (length titles) ≡ delivered f (length table) (length titles)
     told f = reading-started P f (length old) (length table) (length titles) ∙ passed P (length old) h (delivered f (length table) (length titles))
 
@@ -60,6 +83,12 @@ module _ (P old table titles new : List ℕ) (answer : Reading) (lines width : �
       table-left = refl;
       titles-left = refl;
     }
+
+    pub no-width : width ≡ 0 → Reads length boxes P old table titles Reading.Undrawn new table titles
+    no-width z = none-drawn (empty-is-none P (sym (st .wide h) ∙ z))
+
+    pub a-space : spaced P ≡ true → Reads length boxes P old table titles Reading.Undrawn new table titles
+    a-space s = none-drawn (spaced-is-none P old h s)
 
     -- the last answer, by what lies on the canvas
     pub answered-so : (r : Reading) (table′ titles′ : List ℕ) → spaced P ≡ false

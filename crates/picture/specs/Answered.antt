@@ -3,19 +3,20 @@ use mathlib.Core.Path.{_≡_}
 use mathlib.Core.List.{List}
 use mathlib.Core.Bool.{true}
 use Prim.Native.Nat.{ℕ, _*_, _≤_, _<_}
-use lib.ListN.{length, getD}
+use lib.ListN.{length, getD, take}
 use Rattle.rules.specs.Base.{first}
 use Rattle.rules.specs.Numbers.{badDepth}
 use Rattle.rules.specs.Levels.{view}
 use Rattle.rules.specs.Drawing.{boxes}
 use Rattle.rules.specs.Ordinary.{ordinary}
 use Rattle.rules.specs.declared.Reading.{Reading}
+use Rattle.rules.proofs.Candidate.{outside}
 use Rattle.marks.specs.Numbers.{Pictured}
 use Rattle.marks.proofs.Text.{Held}
 use Rattle.sight.specs.Seen.{seen}
 use Rattle.sight.specs.Plan.{planSeen}
-use Rattle.gather.specs.Gathered.{Misfit}
-use Rattle.picture.specs.Given.{Delivers}
+use Rattle.gather.specs.Gathered.{Gathered, Misfit}
+use Rattle.picture.specs.Standing.{Delivers}
 
 -- the cells hold a picture: code points that a text can hold
 pub record Picture (cells : List ℕ) (w h : ℕ) : Type 0 where
@@ -24,6 +25,13 @@ pub record Picture (cells : List ℕ) (w h : ℕ) : Type 0 where
   pub wide : w ≤ 1048576
   pub high : h ≤ 1048576
   pub held : (k : ℕ) → k < w * h → Held (getD cells k 0)
+
+-- what is kept of the plan once it is gathered: its table alone, its nodes' numbers, and the rows' centres
+pub record Kept (cells : List ℕ) (w h nodes bytes : ℕ) (table cy middle lines most : List ℕ) : Type 0 where
+  pub whole : List ℕ
+  pub gathered : Gathered cells w h nodes bytes whole middle lines most
+  pub table-is : table ≡ take (3 * nodes) whole
+  pub cy-is : (i : ℕ) → i < outside (seen cells w h) w h .nr → getD cy i 0 ≡ outside (seen cells w h) w h .cy i
 
 module _ (cells : List ℕ) (w h : ℕ) where
   -- the plan that is seen is ordinary, and the picture shows its drawing

@@ -5,7 +5,7 @@ ghost use lib.ListN.{length, getD};
 ghost use Rattle.rules.specs.Base.{laid};
 ghost use Rattle.rules.specs.Reader.{tableOf, titlesOf};
 ghost use Rattle.sight.specs.Plan.{planSeen};
-ghost use Rattle.picture.specs.Given.{Given, Delivers};
+ghost use Rattle.picture.specs.Standing.{Standing, Delivers};
 use rules::Reading;
 
 // Copies the table.
@@ -35,7 +35,7 @@ fn give_titles(
 )
     requires { ⌜ width * height ≤ length (now cells) ⌝ }
     requires { ⌜ ((k : ℕ) → k < width * height → getD (now cells) k 0 < 0x200000) ⌝ }
-    requires { ⌜ Given (now cells) width height nodes (now found) (now cy) (now middle) (now lines) (now longest) ⌝ }
+    requires { ⌜ Standing (now cells) width height nodes (now found) (now cy) (now middle) (now lines) (now longest) ⌝ }
     requires { ⌜ length (titlesOf (planSeen (now cells) width height)) ≤ length (now out) ⌝ }
     ensures { λ _. ⌜ now (out .exit) ≡ laid (titlesOf (planSeen (now (cells .entry)) width height)) (now (out .entry)) ⌝ }
 {
@@ -69,7 +69,7 @@ pub fn deliver(
 ) -> Reading
     requires { ⌜ width * height ≤ length (now cells) ⌝ }
     requires { ⌜ ((k : ℕ) → k < width * height → getD (now cells) k 0 < 0x200000) ⌝ }
-    requires { ⌜ Given (now cells) width height nodes (now found) (now cy) (now middle) (now lines) (now longest) ⌝ }
+    requires { ⌜ Standing (now cells) width height nodes (now found) (now cy) (now middle) (now lines) (now longest) ⌝ }
     requires { ⌜ bytes ≡ length (titlesOf (planSeen (now cells) width height)) ⌝ }
     ensures { λ r. ⌜ Delivers (planSeen (now (cells .entry)) width height) (now (table .entry)) (now (titles .entry)) r (now (table .exit)) (now (titles .exit)) ⌝ }
 {

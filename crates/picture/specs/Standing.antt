@@ -22,7 +22,7 @@ pub record Stands (g : ℕ → ℕ → ℕ) (i cy cx n t : ℕ) (title : List �
   pub is : title ≡ joined (map (λ r. lineAt g (cx - halfUp t) (cy - n / 2 + r) t) (from 0 n))
 
 -- the plan that is seen: its table, and where each title stands
-pub record Given (cells : List ℕ) (w h nodes : ℕ) (table cy middle lines most : List ℕ) : Type 0 where
+pub record Standing (cells : List ℕ) (w h nodes : ℕ) (table cy middle lines most : List ℕ) : Type 0 where
   pub counted : nodes ≡ length (planSeen cells w h)
   pub few : nodes ≤ 256
   pub table-is : table ≡ tableOf (planSeen cells w h)
