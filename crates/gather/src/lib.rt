@@ -1,1 +1,6 @@
-// The plan that is seen on lent cells, gathered cell by cell.
+// The nodes of the only plan that can have been drawn, gathered from a picture that lies on lent cells.
+mod add;
+mod collect;
+
+pub use add::Collected;
+pub use collect::gather;

@@ -1,18 +1,19 @@
 -- Lines joined by 0A, one line at a time: each but the first brings one byte and its own.
 use mathlib.Core.Path.{_≡_, refl, ap, sym, _∙_}
 use mathlib.Core.List.{List, [], _∷_, _++_, map, append-assoc}
-use Prim.Native.Nat.{ℕ, suc, zero, _+_, _*_, _≤_, _<_}
+use Prim.Native.Nat.{ℕ, suc, zero, _+_, _*_, _≤_, _<_, max}
 use native.Mathlib.Nat.{not-suc-le-zero}
 use native.Mathlib.Numerals.{add-one}
 use native.Mathlib.Omega.{arith}
 use lib.ListN.{length, set, length-append, length-map}
 use lib.Seq.{sets}
 use Rattle.rules.proofs.Lists.{sets-append}
-use Rattle.rules.specs.Base.{concat}
+use Rattle.rules.specs.Base.{concat, greatest}
 use Rattle.rules.specs.Utf8.{utf8}
 use Rattle.rules.proofs.Codec.{utf8-size}
 use Rattle.rules.proofs.Candidate.{from, trim, joined, lineAt}
 use Rattle.marks.proofs.Text.{map-snoc, length-from}
+use Rattle.levels.proofs.Plans.{greatest-snoc}
 use Rattle.sight.proofs.Bytes.{bytes-none, length-more, trim-most, line-marks}
 
 pub joined-snoc : (ls : List (List ℕ)) (k : List ℕ) → 1 ≤ length ls → joined (ls ++ (k ∷ [])) ≡ joined ls ++ (10 ∷ k)
@@ -40,6 +41,14 @@ module _ (f : ℕ → List ℕ) where
   block-grow k (suc n) h =
       let e : k + suc n ≡ k + n + 1 = omega arith in
       rw e (omega (arith, block-grow k n h, length-block (k + n) (omega arith)))
+
+  -- the longest of one line, and of one more
+  pub longest-first : greatest length (map f (from 0 1)) ≡ length (f 0)
+  unfolding greatest from
+  longest-first = omega arith
+
+  pub longest-more : (k : ℕ) → greatest length (map f (from 0 (k + 1))) ≡ max (greatest length (map f (from 0 k))) (length (f k))
+  longest-more k = rw (add-one k) (ap (greatest length) (map-snoc f k) ∙ greatest-snoc length (map f (from 0 k)) (f k))
 
   -- one line more is stored
   pub block-stored : (l m r : List ℕ) (a b k : ℕ) → 1 ≤ k → b ≡ a + length (joined (map f (from 0 k))) → m ≡ sets l a (joined (map f (from 0 k)))

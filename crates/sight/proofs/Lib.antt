@@ -8,3 +8,4 @@ pub mod Outsides
 pub mod Trims
 pub mod Bytes
 pub mod Blocks
+pub mod Labels

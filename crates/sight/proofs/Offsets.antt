@@ -34,7 +34,7 @@ greatest-same f h a (suc n) e =
     omega (arith, e a (omega arith) (omega arith), greatest-same f h (suc a) n (λ k l m. e k (omega arith) (omega arith)))
 
 -- a box has a line
-box-some : (g : ℕ → ℕ → ℕ) (x cy y : ℕ) → 1 ≤ boxLines g x cy y
+pub box-some : (g : ℕ → ℕ → ℕ) (x cy y : ℕ) → 1 ≤ boxLines g x cy y
 unfolding boxLines pick
 box-some g x cy y = go (cy - y - 1) (marked g x (y + 2 * (cy - y - 1) + 2))
   where
@@ -42,6 +42,15 @@ box-some g x cy y = go (cy - y - 1) (marked g x (y + 2 * (cy - y - 1) + 2))
     go zero m = omega arith
     go (suc f) true = rw (ne-eqb (suc f) 0 (λ e. absurd (omega arith))) (omega arith)
     go (suc f) false = rw (ne-eqb (suc f) 0 (λ e. absurd (omega arith))) (omega arith)
+
+-- and no more than twice what is above its centre, and one
+pub box-most : (g : ℕ → ℕ → ℕ) (x cy y : ℕ) → y < cy → boxLines g x cy y + 2 * y < 2 * cy
+unfolding boxLines pick
+box-most g x cy y h = go (eqb (cy - y - 1) 0 || marked g x (y + 2 * (cy - y - 1) + 2))
+  where
+    go : (m : Bool) → pick m (2 * (cy - y - 1) + 1) (2 * (cy - y - 1)) + 2 * y < 2 * cy
+    go true = omega arith
+    go false = omega arith
 
 module _ (marks : Marks) (g : ℕ → ℕ → ℕ) (w : ℕ) where
   pub lines-count : (cx cy y : ℕ) → length (linesAt marks g w cx cy y) ≡ boxLines g (cx - 2) cy y

@@ -1,10 +1,16 @@
 // What is seen in a picture that lies on lent cells, row by row, as numbers.
+mod block;
+mod cell;
 mod line;
 mod look;
 mod outside;
 mod part;
 mod side;
 
+pub use block::Block;
+pub use block::block_sizes;
+pub use cell::Label;
+pub use cell::label_at;
 pub use line::block_bytes;
 pub use line::line_bytes;
 pub use line::write_block;
