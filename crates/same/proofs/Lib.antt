@@ -1,0 +1,9 @@
+pub mod Tables
+pub mod Letters
+pub mod Titled
+pub mod Known
+pub mod Centres
+pub mod Agreed
+pub mod Planned
+pub mod Told
+pub mod Middles
