@@ -1,15 +1,14 @@
 -- An ordinary plan is drawn as the picture P exactly when the picture shows what is drawn of it, and no line of P ends in a space.
-use mathlib.Core.Path.{_≡_, refl, ap, sym, _∙_, subst}
-use mathlib.Core.List.{List, List·Memᴰ}
+use mathlib.Core.Path.{_≡_, _∙_, subst}
+use mathlib.Core.List.{List}
 use mathlib.Core.Bool.{true, false}
-use Prim.Native.Nat.{ℕ, _≤_, _<_}
+use Prim.Native.Nat.{ℕ}
 use native.Mathlib.Omega.{arith}
 use lib.ListN.{length}
 use Rattle.rules.specs.Base.{any}
 use Rattle.rules.specs.Utf8.{valid}
 use Rattle.rules.specs.Plan.{Node}
 use Rattle.rules.specs.Levels.{view}
-use Rattle.rules.specs.Measures.{canvasWidth, canvasHeight}
 use Rattle.rules.specs.Drawing.{boxes, text}
 use Rattle.rules.specs.Ordinary.{endsInSpace, ordinary}
 use Rattle.rules.specs.Reader.{ended, pictureLines, pictureWidth, Draws}
@@ -18,7 +17,7 @@ use Rattle.marks.specs.Numbers.{Pictured}
 use Rattle.marks.proofs.Ends.{lawful}
 use Rattle.marks.proofs.Wired.{any-none}
 use Rattle.marks.proofs.Tests.{ordinary-plan, valid-title}
-use Rattle.marks.proofs.Accepted.{Compares, accept, compares}
+use Rattle.marks.proofs.Accepted.{accept, compares}
 use Rattle.marks.proofs.Delivered.{drawn-wide}
 use Rattle.lay.specs.Spaced.{spaced}
 use Rattle.lay.proofs.Unspaced.{spaced-lines, unspaced}

@@ -1,21 +1,19 @@
 -- In the picture of an ordinary plan each box that is found stands where a drawing has it: its middle is its column's centre, and it is
 -- as wide as its longest line asks for. So where one does not, or a title is empty or too long, or there are too many, no plan was drawn.
-use mathlib.Core.Path.{_≡_, refl, ap, sym, _∙_, subst}
-use mathlib.Core.List.{List, [], _∷_, map, List·Memᴰ}
+use mathlib.Core.Path.{_≡_, subst}
+use mathlib.Core.List.{List, [], List·Memᴰ}
 use mathlib.Core.Bool.{true, not, _&&_}
 use Prim.Native.Nat.{ℕ, _+_, _-_, _≤_, _<_}
-use native.Mathlib.Nat.{not-suc-le-zero}
 use native.Mathlib.Omega.{arith}
 use lib.Dec.{leb}
-use lib.ListN.{length, getD, length-map}
+use lib.ListN.{length, length-map}
 use borrow.Author.Tests.{leb-true}
 use Rattle.rules.specs.Measures as M
-use Rattle.marks.proofs.Text as X
 use Rattle.rules.specs.Base.{every, halfUp, concat}
 use Rattle.rules.specs.Utf8.{valid, points, utf8}
 use Rattle.rules.specs.Lines.{linesOf}
 use Rattle.rules.specs.Plan.{Node, nodeAt}
-use Rattle.rules.specs.Levels.{Cell, View, view}
+use Rattle.rules.specs.Levels.{Cell, view}
 use Rattle.rules.specs.Measures.{linesIn, longest, canvasWidth, canvasHeight}
 use Rattle.rules.specs.Drawing.{boxes, boxLeft, boxTop, text}
 use Rattle.rules.specs.Drawing as D
@@ -26,7 +24,7 @@ use Rattle.rules.proofs.Candidate.{at, trim, next, marked, outside, bandOf, fou
 use Rattle.marks.specs.Picture.{textOf}
 use Rattle.marks.specs.Plan.{cells, nodeView}
 use Rattle.marks.proofs.Ends.{lawful}
-use Rattle.marks.proofs.Places.{Proper, placed as box-placed}
+use Rattle.marks.proofs.Places.{placed as box-placed}
 use Rattle.marks.proofs.Back.{cell-from}
 use Rattle.marks.proofs.Plans.{leaves-few}
 use Rattle.marks.proofs.Same.{view-same}

@@ -1,4 +1,4 @@
-pub mod Tables
+pub mod Titles
 pub mod Stored
 pub mod Giving
 pub mod OnCanvas
@@ -7,3 +7,5 @@ pub mod Titled
 pub mod Fitting
 pub mod Theorems
 pub mod Promised
+pub mod Looking
+pub mod Keeping

@@ -1,10 +1,10 @@
 -- A picture that is on the canvas, as the reader sees it: each point holds what the picture's lines have there, so the plan that is seen
 -- is the rules' candidate; and each cell holds a code point that a text can hold.
-use mathlib.Core.Path.{_≡_, refl, ap, sym, _∙_, fun-ext}
+use mathlib.Core.Path.{_≡_, ap, sym, fun-ext}
 use mathlib.Core.List.{List, []}
 use mathlib.Core.Bool.{true, _&&_}
-use Prim.Native.Nat.{ℕ, suc, zero, _+_, _*_, _-_, _/_, _%_, _≤_, _<_}
-use native.Mathlib.Nat.{mod-lt, div-add-mod', mul-comm, mul-le-mul-right, mul-zero}
+use Prim.Native.Nat.{ℕ, suc, _*_, _-_, _/_, _%_, _≤_, _<_}
+use native.Mathlib.Nat.{mod-lt, div-add-mod', mul-comm, mul-le-mul-right}
 use native.Mathlib.Decide.{decLe}
 use native.Mathlib.Omega.{arith}
 use lib.Dec.{leb}
@@ -18,7 +18,7 @@ use Rattle.rules.specs.Drawing.{boxes}
 use Rattle.rules.specs.Reader.{ended, pictureLines, pictureWidth, pictureArea, placed, canvasRead}
 use Rattle.rules.proofs.CharsBack.{both}
 use Rattle.rules.proofs.Lists.{le-greatest}
-use Rattle.rules.proofs.Scalars.{Scalar, points-scalar}
+use Rattle.rules.proofs.Scalars.{points-scalar}
 use Rattle.rules.proofs.Candidate.{at, candidate, planFound}
 use Rattle.marks.proofs.Reading.{getD-mem}
 use Rattle.marks.proofs.Text.{Held}

@@ -1,11 +1,10 @@
 -- The reader's promise, answer by answer: a refusal before the picture is on the canvas, a refusal after it, and a plan that is found.
-use mathlib.Core.Path.{_≡_, refl, ap, sym, _∙_}
-use mathlib.Core.List.{List, [], _∷_}
-use mathlib.Core.Bool.{Bool, true, false}
-use Prim.Native.Nat.{ℕ, _-_, _*_, _≤_, _<_}
+use mathlib.Core.Path.{_≡_, refl, sym, _∙_}
+use mathlib.Core.List.{List}
+use mathlib.Core.Bool.{true, false}
+use Prim.Native.Nat.{ℕ, _-_, _≤_}
 use native.Mathlib.Nat.{mul-le-mul-left, mul-le-mul-right}
 use native.Mathlib.Omega.{arith}
-use lib.Dec.{eqb}
 use lib.ListN.{length, take}
 use borrow.Author.Tests.{ne-eqb}
 use Rattle.rules.specs.Base.{pick}
@@ -13,17 +12,16 @@ use Rattle.rules.specs.Utf8.{points}
 use Rattle.rules.specs.Plan.{Node}
 use Rattle.rules.specs.Numbers.{readerNumber}
 use Rattle.rules.specs.Drawing.{boxes}
-use Rattle.rules.specs.Reader.{Found, plan, nothing, pictureLines, pictureWidth, placed, canvasRead, tableOf, titlesOf, delivered, reading, writtenBy, Draws, Right, Reads}
+use Rattle.rules.specs.Reader.{Found, plan, nothing, pictureLines, pictureWidth, placed, canvasRead, tableOf, titlesOf, delivered, reading, writtenBy, Draws, Reads}
 use Rattle.rules.specs.declared.Reading.{Reading}
 use Rattle.rules.proofs.Candidate.{reads}
 use Rattle.rules.proofs.Lines.{linesOf-some}
 use Rattle.marks.proofs.Reader.{reads-right-boxes}
 use Rattle.lay.specs.Spaced.{spaced}
-use Rattle.lay.specs.Started.{Started, started}
+use Rattle.lay.specs.Started.{Started}
 use Rattle.lay.proofs.Refusals.{reading-started, passed, stopped, put-there, not-there}
 use Rattle.sight.specs.Plan.{planSeen}
-use Rattle.picture.specs.Standing.{Delivers}
-use Rattle.picture.specs.Answered.{Picture, Accepted, Refused, Answered, refused, accepted}
+use Rattle.picture.specs.Answered.{Picture, Answered, refused, accepted}
 use Rattle.picture.proofs.OnCanvas.{held-cells, cells-there, cells-few}
 use Rattle.picture.proofs.Theorems.{accepted-is-drawn, undrawn-is-none, spaced-is-none, empty-is-none}
 

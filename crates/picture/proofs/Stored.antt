@@ -1,17 +1,17 @@
 -- Lent memory that is stored from its first place on, entry by entry or part by part, begins with what was stored; all beyond is untouched.
-use mathlib.Core.Path.{_≡_, refl, ap, sym, _∙_}
-use mathlib.Core.List.{List, [], _∷_, _++_}
-use Prim.Native.Nat.{ℕ, suc, zero, _+_, _≤_, _<_}
+use mathlib.Core.Path.{_≡_, ap, sym, _∙_}
+use mathlib.Core.List.{List, [], _∷_}
+use Prim.Native.Nat.{ℕ, _+_, _≤_, _<_}
 use native.Mathlib.Nat.{zero-add}
 use native.Mathlib.Numerals.{add-one}
 use native.Mathlib.Omega.{arith}
-use lib.ListN.{length, getD, set, take, drop, length-take}
+use lib.ListN.{length, getD, set, take, length-take}
 use lib.Seq.{sets, sets-eq, take-suc, take-all}
 use Rattle.rules.specs.Base.{laid}
 use Rattle.rules.specs.Plan.{Node, nodeAt}
 use Rattle.rules.specs.Reader.{titlesOf}
 use Rattle.rules.proofs.Lists.{sets-append}
-use Rattle.picture.proofs.Tables.{titlesTo, titles-all, titles-more}
+use Rattle.picture.proofs.Titles.{titlesTo, titles-all, titles-more}
 
 pub stored-all : (l vs : List ℕ) → length vs ≤ length l → sets l 0 vs ≡ laid vs l
 unfolding laid

@@ -1,22 +1,21 @@
 -- THE READER, of document 01's plans and marks. At most one ordinary plan is drawn as a picture; what the reader accepts was drawn so;
 -- of what it refuses no ordinary plan was drawn; and with room enough a drawing is read back to the very plan.
 use mathlib.Core.Path.{_≡_, refl, ap, sym, _∙_, subst}
-use mathlib.Core.List.{List, [], _∷_}
+use mathlib.Core.List.{List}
 use mathlib.Core.Bool.{true, false, false≢true}
-use Prim.Native.Nat.{ℕ, _+_, _*_, _≤_, _<_}
+use Prim.Native.Nat.{ℕ, _*_, _≤_}
 use native.Mathlib.Omega.{arith}
 use lib.ListN.{length}
-use Rattle.rules.specs.Measures as M
 use Rattle.rules.specs.Base.{pick, laid}
 use Rattle.rules.specs.Plan.{Node}
 use Rattle.rules.specs.Numbers.{readerNumber}
 use Rattle.rules.specs.Levels.{view}
-use Rattle.rules.specs.Measures.{area, canvasWidth}
+use Rattle.rules.specs.Measures.{area}
 use Rattle.rules.specs.Drawing.{boxes, text}
 use Rattle.rules.specs.Ordinary.{ordinary}
 use Rattle.rules.specs.Reader.{Found, plan, nothing, pictureLines, pictureWidth, placed, canvasRead, tableOf, titlesOf, reading, writtenBy, Draws, Right, Reads}
 use Rattle.rules.specs.declared.Reading.{Reading}
-use Rattle.rules.proofs.Candidate.{candidate, reads}
+use Rattle.rules.proofs.Candidate.{candidate}
 use Rattle.marks.proofs.Ends.{lawful}
 use Rattle.marks.proofs.Reader.{back-boxes, one-plan-boxes, read-back-boxes}
 use Rattle.marks.proofs.Reading.{wide-low}
@@ -27,7 +26,7 @@ use Rattle.lay.specs.Spaced.{spaced}
 use Rattle.sight.specs.Plan.{planSeen}
 use Rattle.picture.specs.Answered.{Accepted, Refused, misfit, no-node, wrong-depth, other}
 use Rattle.picture.proofs.OnCanvas.{placed-valid, seen-is, plan-is}
-use Rattle.picture.proofs.Compared.{Shows, shows-drawn, drawn-shows, drawn-unspaced}
+use Rattle.picture.proofs.Compared.{shows-drawn, drawn-shows, drawn-unspaced}
 use Rattle.picture.proofs.Fitting.{misfit-none}
 
 -- two ordinary plans that are drawn as the same bytes are the same plan

@@ -2,34 +2,34 @@
 -- So a plan that is gathered, whose depths are right and whose drawing is no larger than the picture, is ordinary.
 use mathlib.Core.Path.{_≡_, refl, ap, sym, _∙_}
 use mathlib.Core.List.{List, [], _∷_, _++_, map, List·Memᴰ, List·Memᴰ·head, List·Memᴰ·tail, List·Memᴰ·cases-cons, List·Memᴰ·append-cases, List·Memᴰ·not-nil}
-use mathlib.Core.Bool.{Bool, true, false, not, _&&_}
+use mathlib.Core.Bool.{Bool, true, false, not}
 use mathlib.Core.Logic.{⊎-elim}
-use Prim.Native.Nat.{ℕ, suc, zero, _+_, _*_, _-_, _/_, _≤_, _<_}
+use Prim.Native.Nat.{ℕ, suc, _+_, _*_, _-_, _/_, _≤_, _<_}
 use native.Mathlib.Omega.{arith}
-use lib.ListN.{length, getD, length-map}
+use lib.ListN.{length, getD}
 use borrow.Author.Tests.{le-leb, eq-eqb}
 use Rattle.rules.specs.Base.{pick, every, concat, first, halfUp}
-use Rattle.rules.specs.Utf8.{valid, points, utf8}
+use Rattle.rules.specs.Utf8.{valid, utf8}
 use Rattle.rules.specs.Lines.{linesOf}
 use Rattle.rules.specs.Plan.{Node, nodeAt, depthAt}
 use Rattle.rules.specs.Numbers.{badDepth}
 use Rattle.rules.specs.Levels.{view}
-use Rattle.rules.specs.Measures.{area, canvasWidth, canvasHeight}
+use Rattle.rules.specs.Measures.{area}
 use Rattle.rules.specs.Drawing.{boxes}
 use Rattle.rules.specs.Ordinary.{endsInSpace, ordinaryTitle, ordinary}
-use Rattle.rules.proofs.Codec.{points-all}
 use Rattle.rules.proofs.Lists.{concat-append}
 use Rattle.rules.proofs.Scalars.{Scalar, scalars-valid}
 use Rattle.rules.proofs.Candidate.{from, trim, joined, lineAt, outside}
 use Rattle.marks.specs.Numbers.{Pictured}
 use Rattle.marks.proofs.Accepted.{trim-unspaced}
-use Rattle.marks.proofs.Text.{Held, trim-mem, length-from}
+use Rattle.marks.proofs.Text.{Held, trim-mem}
 use Rattle.lay.proofs.Unspaced.{ends-points}
 use Rattle.sight.specs.Seen.{seen}
 use Rattle.sight.specs.Plan.{planSeen}
 use Rattle.sight.proofs.Seen.{seen-all}
-use Rattle.sight.proofs.Split.{Open, joined-split, map-all, line-open}
+use Rattle.sight.proofs.Split.{map-all}
 use Rattle.gather.specs.Gathered.{Gathered}
+use Rattle.same.proofs.Letters.{line-points, block, block-split}
 
 every-of : {A : Type 0} (t : A → Bool) (l : List A) → ((a : A) → List·Memᴰ a l → t a ≡ true) → every t l ≡ true
 unfolding every
@@ -61,45 +61,34 @@ joined-utf8 f (a ∷ (b ∷ l)) =
     ∙ sym (concat-append utf8 (f a) (10 ∷ joined (map f (b ∷ l))) ∙ ap (λ (r : List ℕ). concat utf8 (f a) ++ r) (unfold concat utf8 pick in refl))
 
 module _ (g : ℕ → ℕ → ℕ) (held : (x y : ℕ) → Held (g x y)) where
-  line-held : (x y t k : ℕ) → List·Memᴰ k (trim (map (λ q. g (x + q) y) (from 0 t))) → Held k
-  line-held x y t k m = map-all Held (λ q. g (x + q) y) (λ q. held (x + q) y) (from 0 t) (trim-mem (map (λ q. g (x + q) y) (from 0 t)) m)
+  line-scalar : (x y t k : ℕ) → List·Memᴰ k (trim (map (λ q. g (x + q) y) (from 0 t))) → Scalar k
+  line-scalar x y t k m = map-all Held (λ q. g (x + q) y) (λ q. held (x + q) y) (from 0 t) (trim-mem (map (λ q. g (x + q) y) (from 0 t)) m) .scalar
 
   line-unspaced : (x y t : ℕ) → endsInSpace (lineAt g x y t) ≡ false
-  unfolding lineAt
   line-unspaced x y t =
-      let ks = trim (map (λ q. g (x + q) y) (from 0 t)) in
-      ends-points (concat utf8 ks) (scalars-valid ks (λ k m. line-held x y t k m .scalar))
-      ∙ ap endsInSpace (points-all ks (λ k m. omega (arith, line-held x y t k m .scalar .below)))
+      ends-points (lineAt g x y t) (unfold lineAt in scalars-valid (trim (map (λ q. g (x + q) y) (from 0 t))) (line-scalar x y t))
+      ∙ ap endsInSpace (line-points g held x y t)
       ∙ trim-unspaced (map (λ q. g (x + q) y) (from 0 t))
 
-  module _ (x y t n : ℕ) (s : 1 ≤ n) where
-    lines : List (List ℕ)
-    lines = map (λ r. lineAt g x (y + r) t) (from 0 n)
-
-    title-lines : linesOf (joined lines) ≡ lines
-    unfolding lines
-    title-lines =
-        joined-split lines (omega (arith, length-map (from 0 n) (λ r. lineAt g x (y + r) t), length-from 0 n))
-        (λ l m. map-all Open (λ r. lineAt g x (y + r) t) (λ r. line-open g (λ a b. held a b .no-end) x (y + r) t) (from 0 n) m)
-
-    title-unspaced : every (λ l. not (endsInSpace l)) (linesOf (joined lines)) ≡ true
-    unfolding lines
+  -- a title of n lines of t cells from (x, y) down
+  module _ (x y n t : ℕ) (s : 1 ≤ n) where
+    title-unspaced : every (λ l. not (endsInSpace l)) (linesOf (joined (block g held x y n t))) ≡ true
     title-unspaced =
-        rw title-lines
-        (every-of (λ l. not (endsInSpace l)) lines
+        rw (block-split g held x y n t s)
+        (every-of (λ l. not (endsInSpace l)) (block g held x y n t)
         (λ l m. map-all (λ (k : List ℕ). not (endsInSpace k) ≡ true) (λ r. lineAt g x (y + r) t) (λ r. ap not (line-unspaced x (y + r) t)) (from 0 n) m))
 
-    title-valid : valid (joined lines) ≡ true
-    unfolding lines lineAt
+    title-valid : valid (joined (block g held x y n t)) ≡ true
+    unfolding lineAt
     title-valid =
         let codes : ℕ → List ℕ = λ r. trim (map (λ q. g (x + q) (y + r)) (from 0 t)) in
         ap valid (joined-utf8 codes (from 0 n))
         ∙ scalars-valid (joined (map codes (from 0 n)))
         (joined-all Scalar (record { below = omega arith; apart = λ c. omega arith }) (map codes (from 0 n))
-        (λ l m. map-all (λ (j : List ℕ). (k : ℕ) → List·Memᴰ k j → Scalar k) codes (λ r k i. line-held x (y + r) t k i .scalar) (from 0 n) m))
+        (λ l m. map-all (λ (j : List ℕ). (k : ℕ) → List·Memᴰ k j → Scalar k) codes (λ r. line-scalar x (y + r) t) (from 0 n) m))
 
-    pub title-ordinary : (title : List ℕ) → title ≡ joined (map (λ r. lineAt g x (y + r) t) (from 0 n)) → 1 ≤ length title → length title ≤ 1024 → ordinaryTitle title ≡ true
-    unfolding lines ordinaryTitle
+    pub title-ordinary : (title : List ℕ) → title ≡ joined (block g held x y n t) → 1 ≤ length title → length title ≤ 1024 → ordinaryTitle title ≡ true
+    unfolding ordinaryTitle
     title-ordinary title e a b =
         rw (
           le-leb 1 (length title) a,
@@ -116,7 +105,7 @@ module _ (cells : List ℕ) (w h nodes bytes : ℕ) (table middle lines most : L
   pub gathered-title : (k : ℕ) → k < nodes → ordinaryTitle (nodeAt (planSeen cells w h) k .title) ≡ true
   gathered-title k l =
       title-ordinary (seen cells w h) seen-held (getD middle k 0 - halfUp (getD most k 0))
-      (outside (seen cells w h) w h .cy (depthAt (planSeen cells w h) k) - getD lines k 0 / 2) (getD most k 0) (getD lines k 0) (ga .placed k l .3)
+      (outside (seen cells w h) w h .cy (depthAt (planSeen cells w h) k) - getD lines k 0 / 2) (getD lines k 0) (getD most k 0) (ga .placed k l .3)
       (nodeAt (planSeen cells w h) k .title) (ga .lettered k l) (ga .titled k l .0) (ga .titled k l .1)
 
   pub gathered-ordinary : 1 ≤ nodes → first (badDepth (planSeen cells w h)) (length (planSeen cells w h)) ≡ length (planSeen cells w h)

@@ -3,7 +3,7 @@ ghost use mathlib.Core.Path.{_≡_};
 ghost use Prim.Native.Nat.{ℕ, _≤_, _<_, _*_};
 ghost use lib.ListN.{length, getD};
 ghost use Rattle.rules.specs.Base.{laid};
-ghost use Rattle.rules.specs.Reader.{tableOf, titlesOf};
+ghost use Rattle.rules.specs.Reader.{titlesOf};
 ghost use Rattle.sight.specs.Plan.{planSeen};
 ghost use Rattle.picture.specs.Standing.{Standing, Delivers};
 use rules::Reading;

@@ -1,7 +1,6 @@
 -- The invariant: the first k entries are stored.
 use Prim.Native.Nat.{_≤_, _-_}
 use mathlib.Core.Path.{_≡_, refl}
-use native.Mathlib.Omega.{arith}
 use lib.ListN.{length, take}
 use lib.Seq.{sets}
 use Rattle.picture.proofs.Stored.{stored-next, stored-list}
