@@ -1,0 +1,4 @@
+pub mod Row
+pub mod Strip
+pub mod Parts
+pub mod Ready

@@ -1,0 +1,54 @@
+-- A row of cells as the code holds it, column by column. Words for contracts, no rule.
+use mathlib.Core.Path.{_≡_}
+use mathlib.Core.List.{List}
+use mathlib.Core.Bool.{Bool, false, not, _||_}
+use Prim.Native.Nat.{ℕ, suc, zero, _+_, _-_, _<_}
+use lib.Dec.{ltb, eqb}
+use lib.ListN.{getD, set, replicate}
+use Rattle.rules.specs.Base.{pick}
+use Rattle.rules.specs.Plan.{depthIn}
+use Rattle.bands.specs.declared.row.Row.{Row}
+
+-- of the first n nodes those of the row above row `under`: k + 1 in the column of node k, 0 where there is none
+unfoldable pub nodesIn : (table column : List ℕ) (under n : ℕ) → List ℕ
+nodesIn table column under zero = replicate 256 0
+nodesIn table column under (suc k) =
+    let l = nodesIn table column under k in
+    set l (getD column k 0) (pick (eqb (depthIn table k + 1) under) (suc k) (getD l (getD column k 0) 0))
+
+-- there is a node in column j
+abbrev pub some : List ℕ → ℕ → Bool
+some l j = not (eqb (getD l j 0) 0)
+
+-- there is one in the first j columns
+unfoldable pub seenTo : List ℕ → ℕ → Bool
+seenTo l zero = false
+seenTo l (suc j) = seenTo l j || some l j
+
+-- no line goes on past a node of the row; one does past a node of the next row; else one does that goes on further right
+unfoldable pub passes : (here next on : ℕ) → ℕ
+passes here next on = pick (eqb here 0) (pick (eqb next 0) on 1) 0
+
+-- a line goes on to the right of column j, which has m columns to its right: 0 if none does
+unfoldable pub goesIn : (here next : List ℕ) (j m : ℕ) → ℕ
+goesIn here next j zero = 0
+goesIn here next j (suc m) = passes (getD here (suc j) 0) (getD next (suc j) 0) (goesIn here next (suc j) m)
+
+-- where part k of n ends: where the next one begins, the last at `last`
+unfoldable pub endIn : (starts : List ℕ) (n last k : ℕ) → ℕ
+endIn starts n last k = pick (ltb (k + 1) n) (getD starts (k + 1) 0) last
+
+-- where the lines of row i of n bend
+unfoldable pub bendIn : (ys : List ℕ) (n height i : ℕ) → ℕ
+bendIn ys n height i = pick (ltb (i + 1) n) (getD ys (i + 1) 0 - 2) (height + 1)
+
+-- row i of a table
+pub record RowOf (table : List ℕ) (nodes : ℕ) (column : List ℕ) (ncols : ℕ) (cy ys : List ℕ) (nrows height i : ℕ) (r : Row) : Type 0 where
+  pub above-is : r .above ≡ nodesIn table column i nodes
+  pub here-is : r .here ≡ nodesIn table column (i + 1) nodes
+  pub next-is : r .next ≡ nodesIn table column (i + 2) nodes
+  pub on-is : (j : ℕ) → j < ncols → getD (r .on) j 0 ≡ goesIn (r .here) (r .next) j (ncols - 1 - j)
+  pub top-is : r .top ≡ getD ys i 0
+  pub end-is : r .end ≡ endIn ys nrows height i
+  pub bend-is : r .bend ≡ bendIn ys nrows height i
+  pub middle-is : r .middle ≡ getD cy i 0

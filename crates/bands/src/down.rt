@@ -1,0 +1,92 @@
+// All bands and the gaps under them, row by row.
+ghost use mathlib.Core.Path.{_≡_};
+ghost use Prim.Native.Nat.{_+_, _*_, _≤_, _<_};
+ghost use lib.ListN.{length};
+ghost use Rattle.rules.specs.Levels.{view};
+ghost use Rattle.rules.specs.Measures.{d};
+ghost use Rattle.rules.specs.Drawing.{boxes};
+ghost use Rattle.marks.specs.Alike.{alikeIn};
+ghost use Rattle.marks.specs.Whole.{markAt};
+ghost use Rattle.sight.specs.Seen.{seen};
+ghost use Rattle.sight.specs.Plan.{planSeen};
+ghost use Rattle.bands.specs.Parts.{rowFrom};
+ghost use Rattle.bands.specs.Ready.{Ready};
+use crate::across::columns_same;
+use crate::row::row_at;
+
+// The band of row i and the gap under it are as they are drawn, right of the axis.
+fn band_same(
+    cells: &[u32],
+    width: u32,
+    height: u32,
+    table: &[u32],
+    nodes: usize,
+    column: &[u32; 256],
+    lines: &[u32; 256],
+    longest: &[u32; 256],
+    cx: &[u32; 256],
+    xs: &[u32; 256],
+    ncols: u32,
+    cy: &[u32; 32],
+    ys: &[u32; 32],
+    nrows: u32,
+    i: u32,
+) -> bool
+    requires { ⌜ (width * height ≤ length (now cells)) × (i < nrows) ⌝ }
+    requires { ⌜ Ready (planSeen (now cells) width height) (seen (now cells) width height) width height (now table) nodes (now column) (now lines) (now longest) (now cx) (now xs) ncols (now cy) (now ys) nrows ⌝ }
+    ensures { λ r. ⌜ r ≡ alikeIn (seen (now (cells .entry)) width height) (markAt length boxes (view (planSeen (now (cells .entry)) width height)))
+        (d (view (planSeen (now (cells .entry)) width height)) + 4) width
+        (rowFrom (view (planSeen (now (cells .entry)) width height)) i) (rowFrom (view (planSeen (now (cells .entry)) width height)) (i + 1)) ⌝ }
+{
+    let row = row_at(table, nodes, column, ncols, cy, ys, nrows, height, i);
+    columns_same(cells, width, row, lines, longest, cx, xs, ncols)
+}
+
+// All bands and gaps are as they are drawn of the only plan that can have been drawn, right of the axis.
+pub fn bands_same(
+    cells: &[u32],
+    width: u32,
+    height: u32,
+    table: &[u32],
+    nodes: usize,
+    column: &[u32; 256],
+    lines: &[u32; 256],
+    longest: &[u32; 256],
+    cx: &[u32; 256],
+    xs: &[u32; 256],
+    ncols: u32,
+    cy: &[u32; 32],
+    ys: &[u32; 32],
+    nrows: u32,
+) -> bool
+    requires { ⌜ width * height ≤ length (now cells) ⌝ }
+    requires { ⌜ Ready (planSeen (now cells) width height) (seen (now cells) width height) width height (now table) nodes (now column) (now lines) (now longest) (now cx) (now xs) ncols (now cy) (now ys) nrows ⌝ }
+    ensures { λ r. ⌜ r ≡ alikeIn (seen (now (cells .entry)) width height) (markAt length boxes (view (planSeen (now (cells .entry)) width height)))
+        (d (view (planSeen (now (cells .entry)) width height)) + 4) width 3 height ⌝ }
+{
+    let mut i = 0;
+    while i < nrows {
+        if band_same(
+            cells,
+            width,
+            height,
+            table,
+            nodes,
+            column,
+            lines,
+            longest,
+            cx,
+            xs,
+            ncols,
+            cy,
+            ys,
+            nrows,
+            i,
+        ) {
+            i += 1;
+        } else {
+            return false;
+        }
+    }
+    true
+}

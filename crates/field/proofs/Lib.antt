@@ -1,0 +1,4 @@
+pub mod Runs
+pub mod Down
+pub mod Spots
+pub mod Blocks

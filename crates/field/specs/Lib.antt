@@ -1,0 +1,4 @@
+pub mod Fits
+pub mod Rows
+pub mod Shapes
+pub mod Span
