@@ -17,8 +17,10 @@ use Rattle.sight.specs.Seen.{seen}
 use Rattle.sight.specs.Plan.{planSeen}
 use Rattle.tree_view.specs.Sizes.{middleAt}
 use Rattle.tree_view.proofs.Ruled.{view-columns, view-rows}
+use Rattle.bands.specs.Ready.{Ready}
 use Rattle.same.specs.Given.{Given, Drawn}
-use Rattle.same.proofs.Known.{lettered}
+use Rattle.same.proofs.Known.{drawable, limits, lettered}
+use Rattle.same.proofs.Planned.{table-long, depth-of, lines-of, longest-of}
 use Rattle.same.proofs.Centres.{deep-seen, middle-drawn, row-drawn}
 
 module _ {cells : List ℕ} {w h nodes : ℕ} {rows table middle lines most : List ℕ} (v : Given cells w h rows table nodes middle lines most)
@@ -41,7 +43,7 @@ module _ {cells : List ℕ} {w h nodes : ℕ} {rows table middle lines most : Li
   other-rows e q =
       false≢true (sym e ∙ alike-if (λ i. getD rows i 0) (λ i. getD cy i 0) 0 nrows (λ i a l. row-drawn v q i (omega (arith, n .rows-are)) ∙ sym (row-centre i l)))
 
-  pub letters-stand : alike (λ k. getD middle k 0) (middleAt column cx) 0 nodes ≡ true → alike (λ i. getD rows i 0) (λ i. getD cy i 0) 0 nrows ≡ true
+  letters-stand : alike (λ k. getD middle k 0) (middleAt column cx) 0 nodes ≡ true → alike (λ i. getD rows i 0) (λ i. getD cy i 0) 0 nrows ≡ true
       → Lettered (view (planSeen cells w h)) (seen cells w h)
   letters-stand e f =
       let p = planSeen cells w h in
@@ -52,3 +54,20 @@ module _ {cells : List ℕ} {w h nodes : ℕ} {rows table middle lines most : Li
       sym (v .rows-are (depthAt p k) (deep-seen cells w h k b))
       ∙ alike-all (λ i. getD rows i 0) (λ i. getD cy i 0) 0 nrows f (depthAt p k) (omega arith) i
       ∙ row-centre (depthAt p k) i))
+
+  -- all that is asked before the bands are compared
+  pub ready : alike (λ k. getD middle k 0) (middleAt column cx) 0 nodes ≡ true → alike (λ i. getD rows i 0) (λ i. getD cy i 0) 0 nrows ≡ true
+      → Ready (planSeen cells w h) (seen cells w h) w h table nodes column lines most cx xs ncols cy ys nrows
+  ready e f = record {
+    drawable = drawable v;
+    small = limits v;
+    numbers = n;
+    counted = v .gathered .counted;
+    room = omega (arith, table-long v);
+    depths = depth-of v;
+    columns = placed;
+    lines-are = lines-of v;
+    longest-are = longest-of v;
+    titled = λ k l. v .gathered .titled k l .0;
+    lettered = letters-stand e f;
+  }

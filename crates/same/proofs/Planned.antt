@@ -25,9 +25,9 @@ use Rattle.tree_view.proofs.Laid.{at-whole}
 use Rattle.tree_view.proofs.Limits.{width-ge, columns-le, rows-le, d-le, cx-le, cy-le, canvas-width-le, canvas-height-le}
 use Rattle.tree_view.proofs.Nodes.{longest-at-le, lines-at-le}
 use Rattle.tree_view.proofs.Ruled.{view-columns, view-rows, columns-ruled, rows-ruled, column-offset-at, column-width-at, columns-end, cx-at, row-offset-at, rows-end, cy-at}
-use Rattle.same.specs.Given.{Given, Laid, Noted}
+use Rattle.same.specs.Given.{Given, Laid}
 use Rattle.same.proofs.Tables.{length-table, depth-table, plan-table}
-use Rattle.same.proofs.Known.{limits, title-some}
+use Rattle.same.proofs.Known.{limits}
 
 module _ {cells : List ℕ} {w h nodes : ℕ} {rows table middle lines most : List ℕ} (v : Given cells w h rows table nodes middle lines most) where
   the-table : table ≡ tableOf (planSeen cells w h)
@@ -43,10 +43,10 @@ module _ {cells : List ℕ} {w h nodes : ℕ} {rows table middle lines most : Li
   pub depth-low : (k : ℕ) → k < nodes → depthIn table k < 32
   depth-low k l = omega (arith, depth-of k l, limits v .depths k (omega (arith, v .gathered .counted)))
 
-  lines-of : (k : ℕ) → k < nodes → getD lines k 0 ≡ linesAt (planSeen cells w h) k
+  pub lines-of : (k : ℕ) → k < nodes → getD lines k 0 ≡ linesAt (planSeen cells w h) k
   lines-of k l = at-whole (linesAt (planSeen cells w h)) nodes k lines (replicate 256 0) (v .gathered .lines-are) (v .gathered .few) l
 
-  longest-of : (k : ℕ) → k < nodes → getD most k 0 ≡ longestAt (planSeen cells w h) k
+  pub longest-of : (k : ℕ) → k < nodes → getD most k 0 ≡ longestAt (planSeen cells w h) k
   longest-of k l = at-whole (longestAt (planSeen cells w h)) nodes k most (replicate 256 0) (v .gathered .longest-are) (v .gathered .few) l
 
   -- rows and columns go by the table alone
@@ -96,17 +96,6 @@ module _ {cells : List ℕ} {w h nodes : ℕ} {rows table middle lines most : Li
         keyed = column-low;
         sized = λ k l. omega (arith, longest-of k l, longest-at-le (planSeen cells w h) (limits v) k (omega (arith, v .gathered .counted)));
       };
-    }
-
-    pub noted : Noted (planSeen cells w h) table nodes column lines most
-    noted = record {
-      all = v .gathered .counted;
-      room = omega (arith, table-long);
-      deep = depth-of;
-      placed = placed;
-      lined = lines-of;
-      long = longest-of;
-      titled = λ k l. title-some v k (omega (arith, v .gathered .counted));
     }
 
   -- rows

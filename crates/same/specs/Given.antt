@@ -5,7 +5,7 @@ use mathlib.Core.Bool.{Bool, true, false}
 use Prim.Native.Nat.{ℕ, _*_, _≤_, _<_}
 use lib.ListN.{length, getD, take}
 use Rattle.rules.specs.Base.{first}
-use Rattle.rules.specs.Plan.{Node, depthIn, nodeAt, depthAt}
+use Rattle.rules.specs.Plan.{Node}
 use Rattle.rules.specs.Numbers.{badDepth}
 use Rattle.rules.specs.Levels.{columnAt, view}
 use Rattle.rules.specs.Drawing.{boxes}
@@ -16,7 +16,6 @@ use Rattle.sight.specs.Seen.{seen}
 use Rattle.sight.specs.Plan.{planSeen}
 use Rattle.tree_view.specs.declared.widths.Columns.{Columns}
 use Rattle.tree_view.specs.declared.heights.Rows.{Rows}
-use Rattle.tree_view.specs.Measured.{linesAt, longestAt}
 use Rattle.tree_view.specs.Ruled.{ruledColumns, ruledRows}
 use Rattle.gather.specs.Gathered.{Gathered}
 
@@ -48,13 +47,3 @@ pub record Laid (p : List Node) (column : List ℕ) (columns : Columns) (ncols :
   pub count-is : ncols ≡ view p .columns
   pub rows-are : rows ≡ ruledRows (view p)
   pub row-count-is : nrows ≡ view p .rows
-
--- what is noted of a plan's nodes: their depths stand in the table, their columns, lines and longest lines in arrays; and none is without a title
-pub record Noted (p : List Node) (table : List ℕ) (nodes : ℕ) (column lines most : List ℕ) : Type 0 where
-  pub all : nodes ≡ length p
-  pub room : 3 * nodes ≤ length table
-  pub deep : (k : ℕ) → k < nodes → depthIn table k ≡ depthAt p k
-  pub placed : (k : ℕ) → k < nodes → getD column k 0 ≡ columnAt p k
-  pub lined : (k : ℕ) → k < nodes → getD lines k 0 ≡ linesAt p k
-  pub long : (k : ℕ) → k < nodes → getD most k 0 ≡ longestAt p k
-  pub titled : (k : ℕ) → k < nodes → 1 ≤ length (nodeAt p k .title)
