@@ -93,7 +93,7 @@ unfolding lastOf concat
 last-code a c [] e = e
 last-code a c (k ∷ ks) e = ap (λ (b : ℕ). eqb b 32) (last-append a (utf8 k) (concat utf8 ks)) ∙ last-code (lastOf a (utf8 k)) k ks (last-byte a k)
 
-ends-points : (l : List ℕ) → valid l ≡ true → endsInSpace l ≡ endsInSpace (points l)
+pub ends-points : (l : List ℕ) → valid l ≡ true → endsInSpace l ≡ endsInSpace (points l)
 ends-points l v =
     sym (ends-line 0 l refl)
     ∙ ap (spaceLast 0) (sym (utf8-points l v))

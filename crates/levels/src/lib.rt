@@ -5,6 +5,7 @@ mod titles;
 mod walk;
 
 pub use place::columns;
+pub use refuse::bad_depth;
 pub use refuse::first_refusal;
 pub use titles::title;
 pub use walk::next_cell;

@@ -29,7 +29,7 @@ fn wrong_depth(table: &[u32], k: usize) -> bool
 }
 
 // The first node with a wrong depth, or nodes.
-fn bad_depth(table: &[u32], nodes: usize) -> usize
+pub fn bad_depth(table: &[u32], nodes: usize) -> usize
     requires { ⌜ (nodes ≡ count (now table)) × (length (now table) ≡ 3 * count (now table)) ⌝ }
     ensures { λ r. ⌜ r ≡ first (badDepth (planOf (now (table .entry)) [])) nodes ⌝ }
 {

@@ -1,0 +1,11 @@
+pub mod Titles
+pub mod Stored
+pub mod Giving
+pub mod OnCanvas
+pub mod Compared
+pub mod Titled
+pub mod Fitting
+pub mod Theorems
+pub mod Promised
+pub mod Looking
+pub mod Keeping

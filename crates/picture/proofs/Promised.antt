@@ -1,0 +1,105 @@
+-- The reader's promise, answer by answer: a refusal before the picture is on the canvas, a refusal after it, and a plan that is found.
+use mathlib.Core.Path.{_≡_, refl, sym, _∙_}
+use mathlib.Core.List.{List}
+use mathlib.Core.Bool.{true, false}
+use Prim.Native.Nat.{ℕ, _-_, _≤_}
+use native.Mathlib.Nat.{mul-le-mul-left, mul-le-mul-right}
+use native.Mathlib.Omega.{arith}
+use lib.ListN.{length, take}
+use borrow.Author.Tests.{ne-eqb}
+use Rattle.rules.specs.Base.{pick}
+use Rattle.rules.specs.Utf8.{points}
+use Rattle.rules.specs.Plan.{Node}
+use Rattle.rules.specs.Numbers.{readerNumber}
+use Rattle.rules.specs.Drawing.{boxes}
+use Rattle.rules.specs.Reader.{Found, plan, nothing, pictureLines, pictureWidth, placed, canvasRead, tableOf, titlesOf, delivered, reading, writtenBy, Draws, Reads}
+use Rattle.rules.specs.declared.Reading.{Reading}
+use Rattle.rules.proofs.Candidate.{reads}
+use Rattle.rules.proofs.Lines.{linesOf-some}
+use Rattle.marks.proofs.Reader.{reads-right-boxes}
+use Rattle.lay.specs.Spaced.{spaced}
+use Rattle.lay.specs.Started.{Started}
+use Rattle.lay.proofs.Refusals.{reading-started, passed, stopped, put-there, not-there}
+use Rattle.sight.specs.Plan.{planSeen}
+use Rattle.picture.specs.Answered.{Picture, Answered, refused, accepted}
+use Rattle.picture.proofs.OnCanvas.{held-cells, cells-there, cells-few}
+use Rattle.picture.proofs.Theorems.{accepted-is-drawn, undrawn-is-none, spaced-is-none, empty-is-none}
+
+-- only done writes
+unwritten : (part : List Node → List ℕ) (f : Found) (r : Reading) (old : List ℕ) → 1 ≤ readerNumber r → old ≡ writtenBy part f r old
+unfolding writtenBy pick
+unwritten part nothing r old h = refl
+unwritten part (plan p) r old h = rw (ne-eqb (readerNumber r) 0 (λ e. omega arith)) refl
+
+module _ (P old table titles new : List ℕ) (answer : Reading) (lines width : ℕ) (st : Started P old new answer lines width) where
+  -- the first refusal
+  pub stops : 1 ≤ readerNumber answer → Reads length boxes P old table titles answer new table titles
+  stops n =
+      let b = rw (st .answered) at n in
+      let f = reads boxes length P in
+      let q = stopped P (length old) (not-there P (length old) b) (Reading.Done 0) (delivered f (length table) (length titles)) .0 in
+      record {
+        found = f;
+        right = reads-right-boxes P;
+        answered = st .answered ∙ q ∙ sym (reading-started P f (length old) (length table) (length titles));
+        canvas-left = st .left;
+        table-left = unwritten tableOf f answer table n;
+        titles-left = unwritten titlesOf f answer titles n;
+      }
+
+  -- or none: the picture is there
+  pub passes : readerNumber answer ≡ 0 → placed P (length old) ≡ true
+  passes n = put-there P (length old) (rw (st .answered) at n)
+
+  module _ (h : placed P (length old) ≡ true) where
+    -- with cells enough, and not too many
+    pub picture-there : 1 ≤ width → Picture new width lines
+    picture-there s =
+        let w = st .wide h in
+        let l = st .high h in
+        let some : 1 ≤ length (pictureLines P) = unfold pictureLines in linesOf-some (points (take (length P - 1) P)) in
+        let few = rw (← w, ← l) at (cells-few P old h) in
+        record {
+          fits = rw (st .left, w, l) (cells-there P old h);
+          small = few;
+          wide = omega (arith, mul-le-mul-left {m = 1} {n = lines} width (omega (arith, some)));
+          high = omega (arith, mul-le-mul-right {m = 1} {n = width} lines s);
+          held = rw (st .left, w, l) (held-cells P old h);
+        }
+
+    told : (f : Found) → reading P f (length old) (length table) (length titles) ≡ delivered f (length table) (length titles)
+    told f = reading-started P f (length old) (length table) (length titles) ∙ passed P (length old) h (delivered f (length table) (length titles))
+
+    -- no plan is drawn so
+    pub none-drawn : ((q : List Node) → Draws length boxes q P → ⊥) → Reads length boxes P old table titles Reading.Undrawn new table titles
+    unfolding delivered writtenBy
+    none-drawn f = record {
+      found = nothing;
+      right = f;
+      answered = sym (told nothing);
+      canvas-left = st .left;
+      table-left = refl;
+      titles-left = refl;
+    }
+
+    pub no-width : width ≡ 0 → Reads length boxes P old table titles Reading.Undrawn new table titles
+    no-width z = none-drawn (empty-is-none P (sym (st .wide h) ∙ z))
+
+    pub a-space : spaced P ≡ true → Reads length boxes P old table titles Reading.Undrawn new table titles
+    a-space s = none-drawn (spaced-is-none P old h s)
+
+    -- the last answer, by what lies on the canvas
+    pub answered-so : (r : Reading) (table′ titles′ : List ℕ) → spaced P ≡ false
+        → Answered new width lines table titles r table′ titles′ → Reads length boxes P old table titles r new table′ titles′
+    answered-so r table′ titles′ s a = go (rw (st .left, st .wide h, st .high h) at a)
+      where
+        go : Answered (canvasRead P old) (pictureWidth P) (length (pictureLines P)) table titles r table′ titles′ → Reads length boxes P old table titles r new table′ titles′
+        go (refused f e t i) = rw (e, t, i) (none-drawn (undrawn-is-none P old h f))
+        go (accepted a d) = record {
+          found = plan (planSeen (canvasRead P old) (pictureWidth P) (length (pictureLines P)));
+          right = accepted-is-drawn P old h s a;
+          answered = d .answered ∙ sym (told (plan (planSeen (canvasRead P old) (pictureWidth P) (length (pictureLines P)))));
+          canvas-left = st .left;
+          table-left = d .table-left;
+          titles-left = d .titles-left;
+        }

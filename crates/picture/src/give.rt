@@ -1,0 +1,97 @@
+// The plan that was found, into lent memory.
+ghost use mathlib.Core.Path.{_≡_};
+ghost use Prim.Native.Nat.{ℕ, _≤_, _<_, _*_};
+ghost use lib.ListN.{length, getD};
+ghost use Rattle.rules.specs.Base.{laid};
+ghost use Rattle.rules.specs.Reader.{titlesOf};
+ghost use Rattle.sight.specs.Plan.{planSeen};
+ghost use Rattle.picture.specs.Standing.{Standing, Delivers};
+use rules::Reading;
+
+// Copies the table.
+fn give_table(found: &[u32], out: &mut [u32])
+    requires { ⌜ length (now found) ≤ length (now out) ⌝ }
+    ensures { λ _. ⌜ now (out .exit) ≡ laid (now (found .entry)) (now (out .entry)) ⌝ }
+{
+    let mut k = 0;
+    while k < found.len() {
+        out[k] = found[k];
+        k += 1;
+    }
+}
+
+// Writes the titles that stand on the cells, one after another.
+fn give_titles(
+    cells: &[u32],
+    width: u32,
+    height: u32,
+    found: &[u32],
+    nodes: usize,
+    cy: &[u32; 33],
+    middle: &[u32; 256],
+    lines: &[u32; 256],
+    longest: &[u32; 256],
+    out: &mut [u8],
+)
+    requires { ⌜ width * height ≤ length (now cells) ⌝ }
+    requires { ⌜ ((k : ℕ) → k < width * height → getD (now cells) k 0 < 0x200000) ⌝ }
+    requires { ⌜ Standing (now cells) width height nodes (now found) (now cy) (now middle) (now lines) (now longest) ⌝ }
+    requires { ⌜ length (titlesOf (planSeen (now cells) width height)) ≤ length (now out) ⌝ }
+    ensures { λ _. ⌜ now (out .exit) ≡ laid (titlesOf (planSeen (now (cells .entry)) width height)) (now (out .entry)) ⌝ }
+{
+    let mut at = 0;
+    let mut k = 0;
+    while k < nodes {
+        let i = text::wide(found[3 * k]);
+        let n = lines[k];
+        let t = longest[k];
+        let x = middle[k] - tree_view::half_up(t);
+        let y = cy[i] - n / 2;
+        at = sight::write_block(cells, width, height, x, y, t, n, out, at);
+        k += 1;
+    }
+}
+
+// Writes the plan that was found, or answers how much room it asks for.
+pub fn deliver(
+    cells: &[u32],
+    width: u32,
+    height: u32,
+    found: &[u32],
+    nodes: usize,
+    bytes: usize,
+    cy: &[u32; 33],
+    middle: &[u32; 256],
+    lines: &[u32; 256],
+    longest: &[u32; 256],
+    table: &mut [u32],
+    titles: &mut [u8],
+) -> Reading
+    requires { ⌜ width * height ≤ length (now cells) ⌝ }
+    requires { ⌜ ((k : ℕ) → k < width * height → getD (now cells) k 0 < 0x200000) ⌝ }
+    requires { ⌜ Standing (now cells) width height nodes (now found) (now cy) (now middle) (now lines) (now longest) ⌝ }
+    requires { ⌜ bytes ≡ length (titlesOf (planSeen (now cells) width height)) ⌝ }
+    ensures { λ r. ⌜ Delivers (planSeen (now (cells .entry)) width height) (now (table .entry)) (now (titles .entry)) r (now (table .exit)) (now (titles .exit)) ⌝ }
+{
+    let entries = found.len();
+    if table.len() < entries {
+        return Reading::Room(entries);
+    }
+    if titles.len() < bytes {
+        return Reading::Room(bytes);
+    }
+    give_table(found, table);
+    give_titles(
+        cells,
+        width,
+        height,
+        found,
+        nodes,
+        cy,
+        middle,
+        lines,
+        longest,
+        titles,
+    );
+    Reading::Done(nodes)
+}

@@ -1,0 +1,91 @@
+// The plan that is seen in a picture on lent cells.
+ghost use mathlib.Core.Path.{_≡_};
+ghost use Rattle.rules.proofs.Candidate.{outside};
+ghost use Rattle.sight.specs.Seen.{seen};
+ghost use Rattle.gather.specs.Known.{Known};
+ghost use Rattle.picture.specs.Answered.{Picture, Answered};
+use crate::tell::tell;
+use rules::Reading;
+
+// Gathers the plan by the centres and the offsets, and delivers it, if the picture is its drawing.
+fn inside(
+    cells: &[u32],
+    width: u32,
+    height: u32,
+    cx: &[u32; 257],
+    ncols: u32,
+    band: &[u32; 33],
+    cy: &[u32; 33],
+    nrows: u32,
+    table: &mut [u32],
+    titles: &mut [u8],
+) -> Reading
+    requires { ⌜ Picture (now cells) width height ⌝ }
+    requires { ⌜ Known (now cells) width height (now cx) (now band) (now cy)
+        × (ncols ≡ outside (seen (now cells) width height) width height .nc) × (nrows ≡ outside (seen (now cells) width height) width height .nr) ⌝ }
+    ensures { λ r. ⌜ Answered (now (cells .entry)) width height (now (table .entry)) (now (titles .entry)) r (now (table .exit)) (now (titles .exit)) ⌝ }
+{
+    let mut found = [0u32; 768];
+    let mut middle = [0u32; 256];
+    let mut lines = [0u32; 256];
+    let mut longest = [0u32; 256];
+    let c = gather::gather(
+        cells,
+        width,
+        height,
+        cx,
+        ncols,
+        band,
+        cy,
+        nrows,
+        &mut found,
+        &mut middle,
+        &mut lines,
+        &mut longest,
+    );
+    if c.bad {
+        return Reading::Undrawn;
+    }
+    let nodes = c.nodes;
+    let entries = 3 * nodes;
+    tell(
+        cells,
+        width,
+        height,
+        &found[..entries],
+        nodes,
+        c.bytes,
+        cy,
+        &middle,
+        &lines,
+        &longest,
+        table,
+        titles,
+    )
+}
+
+// The plan that is seen, from the outside in, delivered, if the picture is its drawing.
+pub fn look(cells: &[u32], width: u32, height: u32, table: &mut [u32], titles: &mut [u8]) -> Reading
+    requires { ⌜ Picture (now cells) width height ⌝ }
+    ensures { λ r. ⌜ Answered (now (cells .entry)) width height (now (table .entry)) (now (titles .entry)) r (now (table .exit)) (now (titles .exit)) ⌝ }
+{
+    let mut cx = [0u32; 257];
+    let mut cy = [0u32; 33];
+    let mut band = [0u32; 33];
+    let x = sight::margin(cells, width, height);
+    let nrows = sight::seen_rows(cells, width, height, x, &mut cy);
+    let ncols = sight::seen_columns(cells, width, height, &mut cx);
+    sight::bands(cells, width, height, &cx, ncols, &cy, nrows, &mut band);
+    inside(
+        cells,
+        width,
+        height,
+        &cx,
+        ncols,
+        &band,
+        &cy,
+        nrows,
+        table,
+        titles,
+    )
+}
