@@ -1,7 +1,7 @@
 
 // ---- the race: the crate's code, which stands above, and this library, in one program on the same plans ----
 // Both answer first, and what they answer must be equal. Then they are timed in turn, round by round; a round is as many drawings as take
-// about half a millisecond, and the best round counts. Buffers are made once for each plan and are not cleared between drawings.
+// about half a millisecond, and the best round counts.
 use std::time::Instant;
 
 struct TreeFmtNode {
@@ -177,54 +177,63 @@ fn plans() -> Vec<(&'static str, Pairs)> {
     ]
 }
 
-fn main() {
-    let rounds = std::env::args().nth(1).and_then(|w| w.parse().ok()).unwrap_or(200);
-    println!("text                        cells    bytes   crate ns      ns  exact ns   times  exact  ns/cell");
+// One table: a line for each plan, both sides in turn. `lend` makes the memory that is lent, by the cells and the bytes needed.
+fn table(title: &str, dot: bool, rounds: usize, lend: fn(&mut Lent, usize, usize)) {
+    println!("\n{title}\n");
+    println!("| plan | {} | bytes | crate, ns | this, ns | times | middle round | ns a {} |", if dot { "nodes" } else { "cells" }, if dot { "byte" } else { "cell" });
+    println!("|---|---|---|---|---|---|---|---|");
     for (name, pairs) in plans() {
         let tree = grow(&pairs, &mut 0);
-        let expected = theirs(&tree, false);
+        let expected = theirs(&tree, dot);
         let mut lent = Lent::new(&pairs);
-        let cells = lent.text()[1] as usize;
+        let cells = if dot { 0 } else { lent.text()[1] as usize };
+        lend(&mut lent, cells, expected.len());
+        let five = if dot { lent.dot() } else { lent.text() };
+        assert!(five[0] == 0 && lent.out[..five[1] as usize] == *expected.as_bytes(), "{name}: the two differ");
+        let times = race(
+            &mut [
+                &mut || {
+                    std::hint::black_box(theirs(std::hint::black_box(&tree), dot));
+                },
+                &mut || {
+                    std::hint::black_box(if dot { lent.dot() } else { lent.text() });
+                },
+            ],
+            rounds,
+        );
+        let (crate_best, crate_middle) = times[0];
+        let (best, middle) = times[1];
+        println!(
+            "| {} | {} | {} | {:.0} | {:.0} | {:.2} | {:.2} | {:.2} |",
+            name,
+            if dot { pairs.len() } else { cells },
+            expected.len(),
+            crate_best,
+            best,
+            crate_best / best,
+            crate_middle / middle,
+            best / if dot { expected.len() } else { cells } as f64,
+        );
+    }
+}
+
+fn main() {
+    let rounds = std::env::args().nth(1).and_then(|w| w.parse().ok()).unwrap_or(400);
+    let processor = std::fs::read_to_string("/proc/cpuinfo")
+        .ok()
+        .and_then(|s| s.lines().find(|l| l.starts_with("model name")).and_then(|l| l.split(": ").nth(1).map(String::from)))
+        .unwrap_or_else(|| "an unknown processor".to_string());
+    println!("Native x86-64 on {processor}. The best of {rounds} rounds for each, taken in turn; `middle round` is the ratio of the middle rounds.");
+    println!("Memory is made once for each plan and not cleared between drawings.");
+    table("Text, with 5 bytes of output lent for each cell:", false, rounds, |lent, cells, _| {
         lent.canvas = vec![0; cells];
         lent.out = vec![0; 5 * cells];
-        let five = lent.text();
-        assert!(five[0] == 0 && lent.out[..five[1] as usize] == *expected.as_bytes(), "{name}: the drawings differ");
-        let mut exact = Lent::new(&pairs);
-        exact.canvas = vec![0; cells];
-        exact.out = vec![0; expected.len()];
-        assert!(exact.text()[0] == 0 && exact.out == *expected.as_bytes(), "{name}: the drawings differ");
-        let times = race(
-            &mut [
-                &mut || { std::hint::black_box(theirs(std::hint::black_box(&tree), false)); },
-                &mut || { std::hint::black_box(lent.text()); },
-                &mut || { std::hint::black_box(exact.text()); },
-            ],
-            rounds,
-        );
-        println!(
-            "{:24} {:8} {:8} {:10.0} {:7.0} {:9.0} {:7.2} {:6.2} {:8.2}   (middle rounds: {:.2} {:.2})",
-            name, cells, expected.len(), times[0].0, times[1].0, times[2].0,
-            times[0].0 / times[1].0, times[0].0 / times[2].0, times[1].0 / cells as f64,
-            times[0].1 / times[1].1, times[0].1 / times[2].1,
-        );
-    }
-    println!("\ndot                         nodes    bytes   crate ns      ns    times");
-    for (name, pairs) in plans() {
-        let tree = grow(&pairs, &mut 0);
-        let expected = theirs(&tree, true);
-        let mut lent = Lent::new(&pairs);
-        lent.out = vec![0; expected.len()];
-        assert!(lent.dot()[0] == 0 && lent.out == *expected.as_bytes(), "{name}: the graphs differ");
-        let times = race(
-            &mut [
-                &mut || { std::hint::black_box(theirs(std::hint::black_box(&tree), true)); },
-                &mut || { std::hint::black_box(lent.dot()); },
-            ],
-            rounds,
-        );
-        println!(
-            "{:24} {:8} {:8} {:10.0} {:7.0} {:8.2}   (middle rounds: {:.2})",
-            name, pairs.len(), expected.len(), times[0].0, times[1].0, times[0].0 / times[1].0, times[0].1 / times[1].1,
-        );
-    }
+    });
+    table("Text, with just the bytes needed lent (so they are counted before they are written):", false, rounds, |lent, cells, bytes| {
+        lent.canvas = vec![0; cells];
+        lent.out = vec![0; bytes];
+    });
+    table("Dot, with just the bytes needed lent (they are always counted first):", true, rounds, |lent, _, bytes| {
+        lent.out = vec![0; bytes];
+    });
 }

@@ -1,14 +1,14 @@
 -- Cells by fours and sixteens: the bytes of sixteen are those of four fours, and a four of plain cells, or of marks ─, is known at sight.
 use mathlib.Core.Path.{_≡_, refl, ap, _∙_}
-use mathlib.Core.List.{List, _++_}
-use Prim.Native.Nat.{ℕ, _+_, _-_, _≤_, _<_}
+use mathlib.Core.List.{List, [], _∷_, _++_}
+use Prim.Native.Nat.{ℕ, _+_, _-_, _/_, _%_, _≤_, _<_}
 use native.Mathlib.Nat.{add-zero, add-assoc}
 use native.Mathlib.Omega.{arith}
 use lib.ListN.{length, getD}
 use lib.Seq.{sets}
 use Rattle.rules.specs.Base.{each, pick}
 use Rattle.rules.specs.Utf8.{utf8}
-use Rattle.rules.proofs.Chars.{utf8-one}
+use Rattle.rules.proofs.Chars.{utf8-one, utf8-three}
 use Rattle.rules.proofs.Text.{each-next, each-room, each-rises}
 use Rattle.canvas_text.specs.Emit.{rowOf, fourAt, Same, Plain, cellsIn, lineBytes, bytesTo, bytesIn}
 use Rattle.canvas_text.specs.declared.emit.Four.{Four}
@@ -55,6 +55,22 @@ module _ (row : List ℕ) (x : ℕ) where
   line-four : Same (fourAt row x) 0x2500 → bytesIn row x 4 ≡ lineBytes 4
   unfolding bytesIn rowOf lineBytes each
   line-four s = rw (add-zero x, s .a, s .b, s .c, s .d)
+
+-- eight cells, all plain
+pub plain-eight : (row : List ℕ) (x : ℕ) (a b : Four) → a ≡ fourAt row x → b ≡ fourAt row (x + 4) → Plain a → Plain b → bytesIn row x 8 ≡ cellsIn a ++ cellsIn b
+plain-eight row x a b ea eb pa pb = in-add row x 4 4 ∙ rw (plain-four row x (rw ea at pa), plain-four row (x + 4) (rw eb at pb), ea, eb)
+
+-- what is left after the first eight of n
+pub after-eight : (row : List ℕ) (x n : ℕ) → 8 ≤ n → bytesIn row x n ≡ bytesIn row x 8 ++ bytesIn row (x + 8) (n - 8)
+after-eight row x n h = let k : n ≡ 8 + (n - 8) = omega arith in ap (bytesIn row x) k ∙ in-add row x 8 (n - 8)
+
+-- a mark from ─ to ┿
+pub mark-bytes : (v : ℕ) → 0x2500 ≤ v → v < 0x2540 → utf8 v ≡ 0xE2 ∷ 0x94 ∷ (v - 0x2480) ∷ []
+mark-bytes v h l =
+    let a : 0xE0 + v / 4096 ≡ 0xE2 = omega arith in
+    let b : 0x80 + v / 64 % 64 ≡ 0x94 = omega arith in
+    let c : 0x80 + v % 64 ≡ v - 0x2480 = omega arith in
+    utf8-three v (omega arith) (omega arith) ∙ rw (a, b, c)
 
 lines : lineBytes 4 ++ lineBytes 4 ++ lineBytes 4 ++ lineBytes 4 ≡ lineBytes 16
 unfolding lineBytes each utf8 pick

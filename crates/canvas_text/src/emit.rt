@@ -8,7 +8,7 @@ ghost use lib.Seq.{sets};
 ghost use Rattle.rules.specs.Base.{laid};
 ghost use Rattle.rules.specs.Utf8.{utf8};
 ghost use Rattle.rules.specs.Drawing.{endOf, textOf};
-ghost use Rattle.canvas_text.specs.Emit.{cellsOf, rowOf, fourAt, Same, Plain, Over, cellsIn, lineBytes, endIn, bytesTo, bytesIn, rowIn};
+ghost use Rattle.canvas_text.specs.Emit.{cellsOf, rowOf, fourAt, Same, Plain, Over, cellsIn, lineBytes, endIn, bytesTo, bytesIn, rowIn, Needed};
 
 // Four cells side by side. (A row is looked at in fours and sixteens, which the compiler keeps in wide registers.)
 pub struct Four {
@@ -145,6 +145,17 @@ pub fn text_bytes(cells: &[u32], width: usize, height: usize) -> usize
     bytes
 }
 
+// What the whole text needs, if that is more than `room`. (It is not counted where `room` has four bytes for each cell and one for each row.)
+pub fn needed(cells: &[u32], width: usize, height: usize, room: usize) -> usize
+    requires { ⌜ (width * height ≤ length (now cells)) × (width * height ≤ 1048576) × (height ≤ 65536) ⌝ }
+    ensures { λ r. ⌜ Needed (textOf (cellsOf (now (cells .entry)) width) width height) room r ⌝ }
+{
+    if 4 * (width * height) + height <= room {
+        return 0;
+    }
+    text_bytes(cells, width, height)
+}
+
 // Writes four cells of one byte each.
 fn put_four(f: Four, out: &mut [u8], at: usize)
     requires { ⌜ Plain f ⌝ }
@@ -184,6 +195,34 @@ fn put_line(out: &mut [u8], at: usize) -> usize
     to
 }
 
+// Writes one of the marks ─ to ┿, and answers the place after it.
+fn put_mark(v: u32, out: &mut [u8], at: usize) -> usize
+    requires { ⌜ (0x2500 ≤ v) × (v < 0x2540) × (at + 3 ≤ length (now out)) ⌝ }
+    ensures { λ r. ⌜ (r ≡ at + length (utf8 v)) × (now (out .exit) ≡ sets (now (out .entry)) at (utf8 v)) ⌝ }
+{
+    out[at] = 0xE2;
+    out[at + 1] = 0x94;
+    out[at + 2] = (v - 0x2480) as u8;
+    at + 3
+}
+
+// Writes one cell, and answers the place after it: what text::encode does, with short ways for a plain cell and for ─ to ┿.
+fn put_cell(v: u32, out: &mut [u8], at: usize) -> usize
+    requires { ⌜ (at + length (utf8 v) ≤ length (now out)) × (v < 0x200000) ⌝ }
+    ensures { λ r. ⌜ (r ≡ at + length (utf8 v)) × (now (out .exit) ≡ sets (now (out .entry)) at (utf8 v)) ⌝ }
+{
+    if v < 0x80 {
+        out[at] = v as u8;
+        return at + 1;
+    }
+    if 0x2500 <= v {
+        if v < 0x2540 {
+            return put_mark(v, out, at);
+        }
+    }
+    text::encode(v, out, at)
+}
+
 // Writes n cells from x on, one by one, and answers the place after them.
 fn put_cells(row: &[u32], x: usize, n: usize, out: &mut [u8], at: usize) -> usize
     requires { ⌜ (x + n ≤ length (now row)) × (at + length (bytesIn (now row) x n) ≤ length (now out)) ⌝ }
@@ -193,10 +232,36 @@ fn put_cells(row: &[u32], x: usize, n: usize, out: &mut [u8], at: usize) -> usiz
     let mut to = at;
     let mut k = 0;
     while k < n {
-        to = text::encode(row[x + k], out, to);
+        to = put_cell(row[x + k], out, to);
         k += 1;
     }
     to
+}
+
+// Writes eight cells from x on, and answers the place after them.
+fn put_eight(row: &[u32], x: usize, out: &mut [u8], at: usize) -> usize
+    requires { ⌜ (x + 8 ≤ length (now row)) × (at + length (bytesIn (now row) x 8) ≤ length (now out)) ⌝ }
+    requires { ⌜ ((i : ℕ) → i < 8 → getD (now row) (x + i) 0 < 0x200000) ⌝ }
+    ensures { λ r. ⌜ (r ≡ at + length (bytesIn (now (row .entry)) x 8)) × (now (out .exit) ≡ sets (now (out .entry)) at (bytesIn (now (row .entry)) x 8)) ⌝ }
+{
+    let a = four_at(row, x);
+    let b = four_at(row, x + 4);
+    if all(plain(a), plain(b), true, true) {
+        put_four(a, out, at);
+        put_four(b, out, at + 4);
+        return at + 8;
+    }
+    put_cells(row, x, 8, out, at)
+}
+
+// Writes sixteen cells from x on as twice eight, and answers the place after them.
+fn put_halves(row: &[u32], x: usize, out: &mut [u8], at: usize) -> usize
+    requires { ⌜ (x + 16 ≤ length (now row)) × (at + length (bytesIn (now row) x 16) ≤ length (now out)) ⌝ }
+    requires { ⌜ ((i : ℕ) → i < 16 → getD (now row) (x + i) 0 < 0x200000) ⌝ }
+    ensures { λ r. ⌜ (r ≡ at + length (bytesIn (now (row .entry)) x 16)) × (now (out .exit) ≡ sets (now (out .entry)) at (bytesIn (now (row .entry)) x 16)) ⌝ }
+{
+    let half = put_eight(row, x, out, at);
+    put_eight(row, x + 8, out, half)
 }
 
 // Writes sixteen cells from x on, and answers the place after them. Most are all plain or all ─.
@@ -220,7 +285,20 @@ fn put_sixteen(row: &[u32], x: usize, out: &mut [u8], at: usize) -> usize
     ) {
         return put_line(out, at);
     }
-    put_cells(row, x, 16, out, at)
+    put_halves(row, x, out, at)
+}
+
+// Writes n cells from x on, eight of them at once where there are eight, and answers the place after them.
+fn put_rest(row: &[u32], x: usize, n: usize, out: &mut [u8], at: usize) -> usize
+    requires { ⌜ (x + n ≤ length (now row)) × (at + length (bytesIn (now row) x n) ≤ length (now out)) ⌝ }
+    requires { ⌜ ((i : ℕ) → i < n → getD (now row) (x + i) 0 < 0x200000) ⌝ }
+    ensures { λ r. ⌜ (r ≡ at + length (bytesIn (now (row .entry)) x n)) × (now (out .exit) ≡ sets (now (out .entry)) at (bytesIn (now (row .entry)) x n)) ⌝ }
+{
+    if n < 8 {
+        return put_cells(row, x, n, out, at);
+    }
+    let to = put_eight(row, x, out, at);
+    put_cells(row, x + 8, n - 8, out, to)
 }
 
 // Writes the first `end` cells of a row from out[at] on, and answers the place after them.
@@ -236,7 +314,7 @@ pub fn write_to(row: &[u32], end: usize, out: &mut [u8], at: usize) -> usize
         to = put_sixteen(row, x, out, to);
         x += 16;
     }
-    put_cells(row, x, end - x, out, to)
+    put_rest(row, x, end - x, out, to)
 }
 
 // Writes a row's text and its 0A from out[at] on, and answers the place after it.

@@ -2,6 +2,7 @@
 mod emit;
 
 pub use emit::bytes_to;
+pub use emit::needed;
 pub use emit::text_bytes;
 pub use emit::trimmed;
 pub use emit::write_text;

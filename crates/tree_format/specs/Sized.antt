@@ -7,9 +7,8 @@ use Rattle.rules.specs.Plan.{Node, count, planOf}
 use Rattle.rules.specs.Levels.{View, columnAt, view}
 use Rattle.rules.specs.Measures.{rowOffset, cx, cy, canvasWidth, canvasHeight}
 use Rattle.levels.specs.Filled.{filled}
-use Rattle.tree_view.specs.declared.widths.Columns.{Columns}
-use Rattle.tree_view.specs.declared.heights.Rows.{Rows}
 use Rattle.tree_view.specs.Measured.{linesAt, longestAt}
+use Rattle.tree_view.specs.Sizes.{sumAt}
 use Rattle.tree_view.specs.Ruled.{ruledColumns, ruledRows}
 use Rattle.canvas.specs.declared.draw.Size.{Size}
 use Rattle.connections.specs.declared.connect.Gap.{Gap}
@@ -21,11 +20,12 @@ pub record Measured (T B column lines longest : List ℕ) : Type 0 where
   pub lines-are : lines ≡ filled (linesAt (planOf T B)) 0 (count T) (replicate 256 0)
   pub longest-are : longest ≡ filled (longestAt (planOf T B)) 0 (count T) (replicate 256 0)
 
--- the columns and rows, and how many there are
-pub record Laid (v : View) (columns : Columns) (count : ℕ) (rows : Rows) (rowCount : ℕ) : Type 0 where
-  pub columns-are : columns ≡ ruledColumns v
+-- the centres of columns and rows, where rows begin, and how many there are
+pub record Laid (v : View) (centresX : List ℕ) (count : ℕ) (centresY offset : List ℕ) (rowCount : ℕ) : Type 0 where
+  pub columns-are : centresX ≡ filled (sumAt (ruledColumns v .offset) (ruledColumns v .center)) 0 count (replicate 256 0)
   pub count-is : count ≡ v .columns
-  pub rows-are : rows ≡ ruledRows v
+  pub rows-are : centresY ≡ filled (sumAt (ruledRows v .offset) (ruledRows v .center)) 0 rowCount (replicate 32 0)
+  pub offset-is : offset ≡ ruledRows v .offset
   pub row-count-is : rowCount ≡ v .rows
 
 -- the canvas' size

@@ -16,8 +16,6 @@ use crate::view;
 use canvas::Size;
 use rules::Answer;
 use rules::Drawing;
-use tree_view::Columns;
-use tree_view::Rows;
 
 // An answer without a drawing.
 fn undrawn(answer: Answer) -> Drawing
@@ -40,7 +38,7 @@ fn written(cells: &[u32], size: Size, untitled: u32, out: &mut [u8]) -> Drawing
 {
     let width = text::wide(size.width);
     let height = text::wide(size.height);
-    let need = canvas_text::text_bytes(cells, width, height);
+    let need = canvas_text::needed(cells, width, height, out.len());
     if out.len() < need {
         return undrawn(Answer::Room(need));
     }
@@ -61,9 +59,10 @@ fn sized(
     column: &[u32; 256],
     lines: &[u32; 256],
     longest: &[u32; 256],
-    columns: Columns,
+    cx: &[u32; 256],
     ncols: u32,
-    rows: Rows,
+    cy: &[u32; 32],
+    offset: &[u32; 32],
     nrows: u32,
     size: Size,
     cells: &mut [u32],
@@ -71,7 +70,7 @@ fn sized(
 ) -> Drawing
     requires { ⌜ (done (checked true (now table) (now titles)) ≡ true) × (nodes ≡ count (now table)) ⌝ }
     requires { ⌜ Measured (now table) (now titles) (now column) (now lines) (now longest) ⌝ }
-    requires { ⌜ Laid (view (planOf (now table) (now titles))) columns ncols rows nrows × Sized (view (planOf (now table) (now titles))) size ⌝ }
+    requires { ⌜ Laid (view (planOf (now table) (now titles))) (now cx) ncols (now cy) (now offset) nrows × Sized (view (planOf (now table) (now titles))) size ⌝ }
     ensures { λ r. ⌜ Drawn (now (table .entry)) (now (titles .entry)) (now (cells .entry)) (now (out .entry)) r (now (cells .exit)) (now (out .exit)) ⌝ }
 {
     let need = tree_view::area(size.width, size.height);
@@ -88,56 +87,16 @@ fn sized(
         column,
         lines,
         longest,
-        columns,
+        cx,
         ncols,
-        rows,
+        cy,
+        offset,
         nrows,
         size,
         cells,
     );
     let untitled = levels::untitled(table, nodes);
     written(cells, size, untitled, out)
-}
-
-// The canvas of a plan whose columns and rows are laid, and its drawing.
-fn laid(
-    table: &[u32],
-    nodes: usize,
-    titles: &[u8],
-    column: &[u32; 256],
-    lines: &[u32; 256],
-    longest: &[u32; 256],
-    columns: Columns,
-    ncols: u32,
-    rows: Rows,
-    nrows: u32,
-    cells: &mut [u32],
-    out: &mut [u8],
-) -> Drawing
-    requires { ⌜ (done (checked true (now table) (now titles)) ≡ true) × (nodes ≡ count (now table)) ⌝ }
-    requires { ⌜ Measured (now table) (now titles) (now column) (now lines) (now longest) ⌝ }
-    requires { ⌜ Laid (view (planOf (now table) (now titles))) columns ncols rows nrows ⌝ }
-    ensures { λ r. ⌜ Drawn (now (table .entry)) (now (titles .entry)) (now (cells .entry)) (now (out .entry)) r (now (cells .exit)) (now (out .exit)) ⌝ }
-{
-    let size = Size {
-        width: tree_view::canvas_width(columns, ncols),
-        height: tree_view::canvas_height(rows, nrows),
-    };
-    sized(
-        table,
-        nodes,
-        titles,
-        column,
-        lines,
-        longest,
-        columns,
-        ncols,
-        rows,
-        nrows,
-        size,
-        cells,
-        out,
-    )
 }
 
 // The columns and rows of a plan whose nodes are measured, and its drawing.
@@ -161,17 +120,27 @@ fn measured(
     let d = tree_view::index_digits(nrows);
     let columns = tree_view::tree_columns(nodes, column, longest, ncols, d + 4);
     let rows = tree_view::tree_rows(table, nodes, lines, nrows);
-    laid(
+    let size = Size {
+        width: tree_view::canvas_width(&columns.offset, &columns.width, ncols),
+        height: tree_view::canvas_height(&rows.offset, &rows.height, nrows),
+    };
+    let mut cx = [0u32; 256];
+    let mut cy = [0u32; 32];
+    tree_view::column_centers(&columns.offset, &columns.center, ncols, &mut cx);
+    tree_view::row_centers(&rows.offset, &rows.center, nrows, &mut cy);
+    sized(
         table,
         nodes,
         titles,
         column,
         lines,
         longest,
-        columns,
+        &cx,
         ncols,
-        rows,
+        &cy,
+        &rows.offset,
         nrows,
+        size,
         cells,
         out,
     )

@@ -14,8 +14,6 @@ use crate::labels;
 use crate::outside;
 use canvas::Size;
 use connections::Gap;
-use tree_view::Columns;
-use tree_view::Rows;
 
 // The connectors of all rows but the last: the bend row is two above the next row's offset.
 fn connectors(
@@ -96,35 +94,31 @@ pub(crate) fn painted(
     column: &[u32; 256],
     lines: &[u32; 256],
     longest: &[u32; 256],
-    columns: Columns,
+    cx: &[u32; 256],
     ncols: u32,
-    rows: Rows,
+    cy: &[u32; 32],
+    offset: &[u32; 32],
     nrows: u32,
     size: Size,
     cells: &mut [u32],
 )
     requires { ⌜ (size .width * size .height ≤ length (now cells)) × Accepted (now table) (now titles) × (nodes ≡ count (now table)) × (0 < nodes) ⌝ }
     requires { ⌜ Measured (now table) (now titles) (now column) (now lines) (now longest) ⌝ }
-    requires { ⌜ Laid (view (planOf (now table) (now titles))) columns ncols rows nrows × Sized (view (planOf (now table) (now titles))) size ⌝ }
+    requires { ⌜ Laid (view (planOf (now table) (now titles))) (now cx) ncols (now cy) (now offset) nrows × Sized (view (planOf (now table) (now titles))) size ⌝ }
     ensures { λ _. ⌜ now (cells .exit) ≡ laid (canvas length boxes (planOf (now (table .entry)) (now (titles .entry)))) (now (cells .entry)) ⌝ }
 {
-    let mut cx = [0u32; 256];
-    let mut cy = [0u32; 32];
     let mut middle = [0u32; 256];
-    tree_view::column_centers(columns, ncols, &mut cx);
-    tree_view::row_centers(rows, nrows, &mut cy);
-    tree_view::middles(nodes, column, &cx, &mut middle);
-    let offset = rows.offset;
+    tree_view::middles(nodes, column, cx, &mut middle);
     draw_view(
         cells,
         size,
         table,
         nodes,
         titles,
-        &cx,
+        cx,
         ncols,
-        &cy,
-        &offset,
+        cy,
+        offset,
         nrows,
         &middle,
         lines,

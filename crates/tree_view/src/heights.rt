@@ -51,25 +51,25 @@ pub fn tree_rows(table: &[u32], nodes: usize, lines: &[u32; 256], count: u32) ->
 }
 
 // The canvas' height: where the last of `count` rows ends (there is one).
-pub fn canvas_height(r: Rows, count: u32) -> u32
+pub fn canvas_height<'a>(offset: &'a [u32; 32], height: &'a [u32; 32], count: u32) -> u32
     requires { ⌜ (0 < count) × (count ≤ 32) ⌝ }
-    requires { ⌜ sumAt (r .offset) (r .height) (count - 1) < 2 ^ 32 ⌝ }
-    ensures { λ h. ⌜ h ≡ sumAt (r .offset) (r .height) (count - 1) ⌝ }
+    requires { ⌜ sumAt (now offset) (now height) (count - 1) < 2 ^ 32 ⌝ }
+    ensures { λ h. ⌜ h ≡ sumAt (now (offset .entry)) (now (height .entry)) (count - 1) ⌝ }
 {
     let last = text::wide(count) - 1;
-    r.offset[last] + r.height[last]
+    offset[last] + height[last]
 }
 
 // cy[i] = the centre of row i, for the first `count` rows.
-pub fn row_centers(r: Rows, count: u32, cy: &mut [u32; 32])
+pub fn row_centers<'a>(offset: &'a [u32; 32], center: &'a [u32; 32], count: u32, cy: &mut [u32; 32])
     requires { ⌜ count ≤ 32 ⌝ }
-    requires { ⌜ ((i : ℕ) → i < count → sumAt (r .offset) (r .center) i < 2 ^ 32) ⌝ }
-    ensures { λ u. ⌜ now (cy .exit) ≡ filled (sumAt (r .offset) (r .center)) 0 count (now (cy .entry)) ⌝ }
+    requires { ⌜ ((i : ℕ) → i < count → sumAt (now offset) (now center) i < 2 ^ 32) ⌝ }
+    ensures { λ u. ⌜ now (cy .exit) ≡ filled (sumAt (now (offset .entry)) (now (center .entry))) 0 count (now (cy .entry)) ⌝ }
 {
     let n = text::wide(count);
     let mut i = 0;
     while i < n {
-        cy[i] = r.offset[i] + r.center[i];
+        cy[i] = offset[i] + center[i];
         i += 1;
     }
 }

@@ -58,25 +58,30 @@ pub fn tree_columns(
 }
 
 // The canvas' width: one less than where the last of `count` columns ends (there is one).
-pub fn canvas_width(c: Columns, count: u32) -> u32
-    requires { ⌜ (0 < count) × (count ≤ 256) × (0 < getD (c .width) (count - 1) 0) ⌝ }
-    requires { ⌜ sumAt (c .offset) (c .width) (count - 1) < 2 ^ 32 ⌝ }
-    ensures { λ r. ⌜ r ≡ sumAt (c .offset) (c .width) (count - 1) - 1 ⌝ }
+pub fn canvas_width<'a>(offset: &'a [u32; 256], width: &'a [u32; 256], count: u32) -> u32
+    requires { ⌜ (0 < count) × (count ≤ 256) × (0 < getD (now width) (count - 1) 0) ⌝ }
+    requires { ⌜ sumAt (now offset) (now width) (count - 1) < 2 ^ 32 ⌝ }
+    ensures { λ r. ⌜ r ≡ sumAt (now (offset .entry)) (now (width .entry)) (count - 1) - 1 ⌝ }
 {
     let last = text::wide(count) - 1;
-    c.offset[last] + c.width[last] - 1
+    offset[last] + width[last] - 1
 }
 
 // cx[j] = the centre of column j, for the first `count` columns.
-pub fn column_centers(c: Columns, count: u32, cx: &mut [u32; 256])
+pub fn column_centers<'a>(
+    offset: &'a [u32; 256],
+    center: &'a [u32; 256],
+    count: u32,
+    cx: &mut [u32; 256],
+)
     requires { ⌜ count ≤ 256 ⌝ }
-    requires { ⌜ ((j : ℕ) → j < count → sumAt (c .offset) (c .center) j < 2 ^ 32) ⌝ }
-    ensures { λ r. ⌜ now (cx .exit) ≡ filled (sumAt (c .offset) (c .center)) 0 count (now (cx .entry)) ⌝ }
+    requires { ⌜ ((j : ℕ) → j < count → sumAt (now offset) (now center) j < 2 ^ 32) ⌝ }
+    ensures { λ r. ⌜ now (cx .exit) ≡ filled (sumAt (now (offset .entry)) (now (center .entry))) 0 count (now (cx .entry)) ⌝ }
 {
     let n = text::wide(count);
     let mut j = 0;
     while j < n {
-        cx[j] = c.offset[j] + c.center[j];
+        cx[j] = offset[j] + center[j];
         j += 1;
     }
 }

@@ -24,17 +24,17 @@ loop-holds : tie.Need-loop-holds Inv-loop μ-loop
 unfolding bytesIn each
 loop-holds c = (search needs, search needs, search needs, refl)
 
-add-encode : tie.Need-add-encode Inv-loop μ-loop
-add-encode c = search needs
+add-put-cell : tie.Need-add-put-cell Inv-loop μ-loop
+add-put-cell c = search needs
 
-mul-encode : tie.Need-mul-encode Inv-loop μ-loop
-mul-encode c = search needs
+mul-put-cell : tie.Need-mul-put-cell Inv-loop μ-loop
+mul-put-cell c = search needs
 
-shared-slice-read-encode : tie.Need-shared-slice-read-encode Inv-loop μ-loop
-shared-slice-read-encode c = search needs
+shared-slice-read-put-cell : tie.Need-shared-slice-read-put-cell Inv-loop μ-loop
+shared-slice-read-put-cell c = search needs
 
-encode-requires : tie.Need-encode-requires Inv-loop μ-loop
-encode-requires c κs =
+put-cell-requires : tie.Need-put-cell-requires Inv-loop μ-loop
+put-cell-requires c κs =
     let s = c .before .before .before in
     let start = s .before .before .before in
     (omega (arith, in-room (start .args .row .now) (start .args .x) (s .loop .k) (start .args .n) (search needs)), start .pre .1 (s .loop .k) (search needs))
@@ -56,8 +56,8 @@ loop-again c =
     let next = in-next row x (l .k) in (
       search needs,
       search needs,
-      omega (arith, p .encode .ensures .0, simp length-append at (ap length next)),
-      rw next (stored (start .args .out .now) (l .out) (p .encode .last .1 .0) (start .args .at) (l .to) (bytesIn row x (l .k)) (utf8 (getD row (x + l .k) 0)) (l .inv .2) (l .inv .3) (p .encode .ensures .1)),
+      omega (arith, p .put-cell .ensures .0, simp length-append at (ap length next)),
+      rw next (stored (start .args .out .now) (l .out) (p .put-cell .last .1 .0) (start .args .at) (l .to) (bytesIn row x (l .k)) (utf8 (getD row (x + l .k) 0)) (l .inv .2) (l .inv .3) (p .put-cell .ensures .1)),
     )
 
 same-length : tie.Need-same-length Inv-loop μ-loop
@@ -76,10 +76,10 @@ put-cells-spec =
     Inv-loop
     μ-loop
     loop-holds
-    add-encode
-    mul-encode
-    shared-slice-read-encode
-    encode-requires
+    add-put-cell
+    mul-put-cell
+    shared-slice-read-put-cell
+    put-cell-requires
     add-k
     loop-less
     loop-again

@@ -136,8 +136,8 @@ returns-2 c =
     let bytes = line-sixteen (start .args .row .now) (start .args .x) (f1 .four-at .result) (f2 .four-at2 .result) (f3 .four-at3 .result) (f4 .four-at4 .result) (f1 .four-at .ensures) (f2 .four-at2 .ensures) (f3 .four-at3 .ensures) (f4 .four-at4 .ensures) (s1 .same .ensures (t .0)) (s2 .same2 .ensures (t .1)) (s3 .same3 .ensures (t .2)) (s4 .same4 .ensures (t .3)) in
     rw (bytes, line-length) (c .before .before .put-line .ensures)
 
-put-cells-requires : tie.Need-put-cells-requires
-put-cells-requires c κs = search needs
+put-halves-requires : tie.Need-put-halves-requires
+put-halves-requires c κs = search needs
 
 same-length-3 : tie.Need-same-length-3
 same-length-3 c = search needs
@@ -172,6 +172,6 @@ put-sixteen-spec =
     put-line-requires
     same-length-2
     returns-2
-    put-cells-requires
+    put-halves-requires
     same-length-3
     returns-3)

@@ -57,11 +57,11 @@ loop-again c =
       rw next (stored (start .args .out .now) (l .out) (p .put-sixteen .last .1 .1 .0) (start .args .at) (l .to) (bytesTo row (l .x)) (bytesIn row (l .x) 16) (l .inv .2) (l .inv .3) (p .put-sixteen .ensures .1)),
     )
 
-sub-put-cells : tie.Need-sub-put-cells Inv-loop μ-loop
-sub-put-cells c = search needs
+sub-put-rest : tie.Need-sub-put-rest Inv-loop μ-loop
+sub-put-rest c = search needs
 
-put-cells-requires : tie.Need-put-cells-requires Inv-loop μ-loop
-put-cells-requires c κs =
+put-rest-requires : tie.Need-put-rest-requires Inv-loop μ-loop
+put-rest-requires c κs =
     let s = c .before .before in
     let start = s .before .before .before in
     let x = s .loop .x in
@@ -82,8 +82,8 @@ returns c =
     let row = start .args .row .now in
     let n = start .args .end - l .x in
     let rest = to-end row (l .x) (start .args .end) (search needs) in (
-      omega (arith, p .put-cells .ensures .0, simp length-append at (ap length rest)),
-      rw rest (stored (start .args .out .now) (l .out) (p .put-cells .last .1 .1 .1 .0) (start .args .at) (l .to) (bytesTo row (l .x)) (bytesIn row (l .x) n) (l .inv .2) (l .inv .3) (p .put-cells .ensures .1)),
+      omega (arith, p .put-rest .ensures .0, simp length-append at (ap length rest)),
+      rw rest (stored (start .args .out .now) (l .out) (p .put-rest .last .1 .1 .1 .0) (start .args .at) (l .to) (bytesTo row (l .x)) (bytesIn row (l .x) n) (l .inv .2) (l .inv .3) (p .put-rest .ensures .1)),
     )
 
 pub write-to-spec : {M : Type 1} → statement M
@@ -98,7 +98,7 @@ write-to-spec =
     add-x
     loop-less
     loop-again
-    sub-put-cells
-    put-cells-requires
+    sub-put-rest
+    put-rest-requires
     same-length
     returns)

@@ -85,7 +85,7 @@ returns-3 c =
     let z = s .pre .1 .1 .1 in
     let e = r .area .ensures ∙ area-ruled (view v) (s .args .size .width) (s .args .size .height) (z .width-is) (z .height-is) in
     let q = rw (p .painted .ensures, text-is v (s .args .size .width) (s .args .size .height) (s .args .cells .now) (z .width-is) (z .height-is)) at (w .written .ensures) in
-    last-step (s .args .table .now) (s .args .titles .now) (s .args .cells .now) (s .args .out .now) (s .pre .0 .0) (w .written .result) (p .painted .last .1 .1 .1 .1 .1 .1 .1 .1 .1 .1 .1 .0) (w .written .last .1 .1 .1 .0)
+    last-step (s .args .table .now) (s .args .titles .now) (s .args .cells .now) (s .args .out .now) (s .pre .0 .0) (w .written .result) (p .painted .last .1 .1 .1 .1 .1 .1 .1 .1 .1 .1 .1 .1 .0) (w .written .last .1 .1 .1 .0)
     (omega (arith, e, p .before .before .before .if1 .left)) (omega (arith, e, p .before .before .if2 .left)) (p .painted .ensures)
     (rw (z .width-is, z .height-is, u .untitled .ensures ∙ sym (untitled-rules a)) at q)
 

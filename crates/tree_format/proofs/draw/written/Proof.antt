@@ -1,4 +1,5 @@
--- What is counted is the text's length, so it is told or the text is stored.
+-- What is needed beyond the room is the text's length, so it is told or the text is stored.
+use mathlib.Core.Path.{refl}
 use Rattle.tree_format.proofs.Drawn.{told, stored}
 use native.Mathlib.Omega.{arith}
 use borrow.Author.Needs.{needs}
@@ -11,8 +12,8 @@ wide-requires c κs = search needs
 wide-requires-2 : tie.Need-wide-requires-2
 wide-requires-2 c κs = search needs
 
-text-bytes-requires : tie.Need-text-bytes-requires
-text-bytes-requires c κs = rw (c .before .wide .ensures, c .wide2 .ensures) (c .before .before .before .before .pre .0)
+needed-requires : tie.Need-needed-requires
+needed-requires c κs = rw (c .before .wide .ensures, c .wide2 .ensures) (c .before .before .before .before .pre .0)
 
 undrawn-requires : tie.Need-undrawn-requires
 undrawn-requires c κs = search needs
@@ -22,7 +23,7 @@ returns c =
     let t = c .before .before in
     let e = t .before .before .wide .ensures in
     let f = t .before .wide2 .ensures in
-    told (rw (e, f) at (t .text-bytes .ensures)) (search needs) (c .undrawn .ensures)
+    told (rw (e, f) at (t .needed .ensures) .told (search needs)) (search needs) (c .undrawn .ensures)
 
 write-text-requires : tie.Need-write-text-requires
 write-text-requires c κs =
@@ -30,8 +31,8 @@ write-text-requires c κs =
     let s = t .before .before .before .before .before in
     let e = t .before .before .wide .ensures in
     let f = t .before .wide2 .ensures in
-    let n = rw (e, f) at (t .text-bytes .ensures) in
-    rw (e, f) (s .pre .0, (omega (arith, n), s .pre .1))
+    let n = rw (e, f) at (t .needed .ensures) in
+    rw (e, f) (s .pre .0, (n .fits (search needs), s .pre .1))
 
 wide-requires-3 : tie.Need-wide-requires-3
 wide-requires-3 c κs = search needs
@@ -45,7 +46,7 @@ returns-2 c =
     let t = w .before .before .before in
     let e = t .before .before .wide .ensures in
     let f = t .before .wide2 .ensures in
-    stored (rw (e, f) at (t .text-bytes .ensures)) (search needs) (rw (e, f) at (w .write-text .ensures .0)) e f (c .wide3 .ensures)
+    stored refl (rw (e, f) at (t .needed .ensures) .fits (search needs)) (rw (e, f) at (w .write-text .ensures .0)) e f (c .wide3 .ensures)
     (rw (e, f) at (w .write-text .ensures .1))
 
 pub written-spec : {M : Type 1} → statement M
@@ -54,7 +55,7 @@ written-spec =
     (tie.spec
     wide-requires
     wide-requires-2
-    text-bytes-requires
+    needed-requires
     undrawn-requires
     returns
     write-text-requires

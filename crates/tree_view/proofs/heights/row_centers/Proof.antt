@@ -10,10 +10,10 @@ use Rattle.tree_view.proofs.heights.row_centers.Statement.{statement}
 use Rattle.tree_view.proofs.heights.row_centers.Tie as tie
 
 abbrev Inv-loop : tie.InvT-loop
-Inv-loop count cy₀ r n i₀ cy i = (i ≤ n) × (cy ≡ filled (sumAt (r .offset) (r .center)) 0 i cy₀)
+Inv-loop offset center count cy₀ n i₀ cy i = (i ≤ n) × (cy ≡ filled (sumAt offset center) 0 i cy₀)
 
 abbrev μ-loop : tie.MeasureT-loop
-μ-loop count cy₀ r n i₀ cy i = n - i
+μ-loop offset center count cy₀ n i₀ cy i = n - i
 
 wide-requires : tie.Need-wide-requires Inv-loop μ-loop
 wide-requires c κs = search needs

@@ -10,11 +10,11 @@ use Rattle.tree_view.proofs.widths.column_centers.Statement.{statement}
 use Rattle.tree_view.proofs.widths.column_centers.Tie as tie
 
 abbrev Inv-loop : tie.InvT-loop
-Inv-loop count cx₀ c n j₀ cx j =
-    (j ≤ n) × (cx ≡ filled (sumAt (c .offset) (c .center)) 0 j cx₀)
+Inv-loop offset center count cx₀ n j₀ cx j =
+    (j ≤ n) × (cx ≡ filled (sumAt offset center) 0 j cx₀)
 
 abbrev μ-loop : tie.MeasureT-loop
-μ-loop count cx₀ c n j₀ cx j = n - j
+μ-loop offset center count cx₀ n j₀ cx j = n - j
 
 wide-requires : tie.Need-wide-requires Inv-loop μ-loop
 wide-requires c κs = search needs
