@@ -22,8 +22,8 @@ fn sized(width: u32, height: u32, columns: Columns, ncols: u32, rows: Rows, nrow
     requires { ⌜ (0 < nrows) × (nrows ≤ 32) × (sumAt (rows .offset) (rows .height) (nrows - 1) < 2 ^ 32) ⌝ }
     ensures { λ r. ⌜ r ≡ (eqb width (sumAt (columns .offset) (columns .width) (ncols - 1) - 1) && eqb height (sumAt (rows .offset) (rows .height) (nrows - 1))) ⌝ }
 {
-    if width == tree_view::canvas_width(columns, ncols) {
-        return height == tree_view::canvas_height(rows, nrows);
+    if width == tree_view::canvas_width(&columns.offset, &columns.width, ncols) {
+        return height == tree_view::canvas_height(&rows.offset, &rows.height, nrows);
     }
     false
 }
@@ -94,8 +94,8 @@ fn matches(
 {
     let mut cx = [0u32; 256];
     let mut cy = [0u32; 32];
-    tree_view::column_centers(columns, ncols, &mut cx);
-    tree_view::row_centers(rows, nrows, &mut cy);
+    tree_view::column_centers(&columns.offset, &columns.center, ncols, &mut cx);
+    tree_view::row_centers(&rows.offset, &rows.center, nrows, &mut cy);
     let xs = columns.offset;
     let ys = rows.offset;
     if level::centered(nodes, column, &cx, middle) {
