@@ -25,6 +25,10 @@ extern "C" {
         table: *const u32, table_length: usize, titles: *const u8, titles_length: usize,
         out: *mut u8, out_length: usize, answer: *mut [u64; 5],
     );
+    fn girthladder_read(
+        picture: *const u8, picture_length: usize, canvas: *mut u32, canvas_length: usize,
+        table: *mut u32, table_length: usize, titles: *mut u8, titles_length: usize, answer: *mut [u64; 5],
+    );
 }
 
 type Pairs = Vec<(usize, String)>;
@@ -84,6 +88,27 @@ impl Lent {
             girthladder_dot(
                 self.table.as_ptr(), self.table.len(), self.titles.as_ptr(), self.titles.len(),
                 self.out.as_mut_ptr(), self.out.len(), &mut five,
+            )
+        }
+        five
+    }
+}
+
+// A picture as this library reads it, with the memory that is lent.
+struct Read {
+    picture: Vec<u8>,
+    canvas: Vec<u32>,
+    table: Vec<u32>,
+    titles: Vec<u8>,
+}
+
+impl Read {
+    fn read(&mut self) -> [u64; 5] {
+        let mut five = [0; 5];
+        unsafe {
+            girthladder_read(
+                self.picture.as_ptr(), self.picture.len(), self.canvas.as_mut_ptr(), self.canvas.len(),
+                self.table.as_mut_ptr(), self.table.len(), self.titles.as_mut_ptr(), self.titles.len(), &mut five,
             )
         }
         five
@@ -213,6 +238,29 @@ fn table(title: &str, dot: bool, rounds: usize, lend: fn(&mut Lent, usize, usize
             crate_best / best,
             crate_middle / middle,
             best / if dot { expected.len() } else { cells } as f64,
+        );
+    }
+    println!("\nreading back                cells    bytes   draw ns  read ns  read/draw");
+    for (name, pairs) in plans() {
+        let text = theirs(&grow(&pairs, &mut 0), false).into_bytes();
+        let mut lent = Lent::new(&pairs);
+        let cells = lent.text()[1] as usize;
+        lent.canvas = vec![0; cells];
+        lent.out = vec![0; 5 * cells];
+        let mut back = Read { canvas: vec![0; cells], table: vec![0; 768], titles: vec![0; text.len()], picture: text };
+        let five = back.read();
+        let (entries, bytes) = (lent.table.len(), lent.titles.len());
+        assert!(five[0] == 0 && back.table[..entries] == lent.table[..] && back.titles[..bytes] == lent.titles[..], "{name}: it is read back as another plan");
+        let times = race(
+            &mut [
+                &mut || { std::hint::black_box(lent.text()); },
+                &mut || { std::hint::black_box(back.read()); },
+            ],
+            rounds,
+        );
+        println!(
+            "{:24} {:8} {:8} {:9.0} {:8.0} {:9.2}   (middle rounds: {:.2})",
+            name, cells, back.picture.len(), times[0].0, times[1].0, times[1].0 / times[0].0, times[1].1 / times[0].1,
         );
     }
 }

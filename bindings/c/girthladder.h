@@ -1,4 +1,4 @@
-/* Girthladder for C and C++: query plans as trees of boxes and as graphs.
+/* Girthladder for C and C++: query plans as trees of boxes and as graphs, and such trees read back.
  *
  * A plan is a table and the bytes of its titles. The table has three uint32_t for each node, nodes depth first:
  *
@@ -8,7 +8,7 @@
  *
  * At most 256 nodes, depth 31, 1,024 bytes in a title, and 1,048,576 canvas cells (width times height).
  *
- * All memory is lent by the caller, by a pointer and its number of elements. Whatever is in the table and the titles, and whatever the
+ * All memory is lent by the caller, by a pointer and its number of elements. Whatever is in the table, the titles and the picture, and whatever the
  * lengths are, each function comes back with an answer. Null pointers are allowed where the length is 0. What is lent must be there for
  * its whole length, aligned as its type asks, and no two of the lent memories may overlap; `answer` is never null. There is no state and
  * no allocation: any number of threads may call at once. The deepest stack is under 24 KiB.
@@ -42,7 +42,7 @@
 extern "C" {
 #endif
 
-/* What `number` may be. They are looked for in this order, each over all nodes before the next. Behind each: the second number. */
+/* What `number` may be. Of a plan they are looked for in this order, each over all nodes before the next. Behind each: the second number. */
 enum girthladder_number {
     GIRTHLADDER_DONE = 0,   /* done: bytes written */
     GIRTHLADDER_RAGGED = 1, /* the table's length is no multiple of 3: 0 */
@@ -53,7 +53,8 @@ enum girthladder_number {
     GIRTHLADDER_UTF8 = 6,   /* a title is not valid UTF-8: the first such node */
     GIRTHLADDER_LARGE = 7,  /* over 1,048,576 cells, drawing only: 0 */
     GIRTHLADDER_CANVAS = 8, /* the canvas is too short, drawing only: cells needed */
-    GIRTHLADDER_ROOM = 9    /* the output is too short: bytes needed */
+    GIRTHLADDER_ROOM = 9,   /* the output is too short: bytes needed */
+    GIRTHLADDER_UNDRAWN = 10 /* no ordinary plan is drawn as this picture, reading only: 0 */
 };
 
 /* What a function answers: all five numbers are written by every call. */
@@ -91,6 +92,25 @@ void girthladder_fenced(const uint32_t *table, size_t table_length,
                         const uint8_t *titles, size_t titles_length,
                         uint8_t *out, size_t out_length,
                         struct girthladder_answer *answer);
+
+/* Reads a picture back. It is accepted exactly when some ordinary plan (no title empty, no line of a title ending in a space, within the
+ * limits) is drawn as those very bytes by girthladder_text; that plan is answered, and there is no second one.
+ *   DONE    table[0 .. 3 * second) holds the plan's nodes, `second` of them; titles holds their titles one after another from 0 on.
+ *           What lies beyond is unchanged.
+ *   UTF8    the picture is not valid UTF-8: 0.          All memory is unchanged.
+ *   UNDRAWN no ordinary plan is drawn so: 0.            An empty picture, or one that does not end in '\n', leaves all memory unchanged.
+ *   LARGE   lines times longest line is over 1,048,576: 0.     All memory is unchanged.
+ *   CANVAS  the canvas is too short: cells needed.      All memory is unchanged.
+ *   ROOM    the table is too short: entries needed; else the titles are: bytes needed.
+ * But for the first four as they are told here, canvas[0 .. lines * longest) holds the picture's code points, each line filled up with
+ * spaces; table and titles change with DONE alone. No other number. Looked for in this order: UTF8, the empty or unended picture, LARGE,
+ * CANVAS, UNDRAWN, ROOM. width, height and untitled are 0.
+ * How much to lend: 768 entries of table and as many title bytes as the picture has are always room enough; CANVAS tells the cells. */
+void girthladder_read(const uint8_t *picture, size_t picture_length,
+                      uint32_t *canvas, size_t canvas_length,
+                      uint32_t *table, size_t table_length,
+                      uint8_t *titles, size_t titles_length,
+                      struct girthladder_answer *answer);
 
 #ifdef __cplusplus
 }

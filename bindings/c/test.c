@@ -1,4 +1,4 @@
-/* Draws document 01's example through girthladder.h, meets each refusal, and tries every length of canvas and output around what is needed.
+/* Draws document 01's example through girthladder.h and reads it back, meets each refusal, and tries every length around what is needed.
  * Each lent memory ends at a page that may not be touched and has marked bytes before it; tables and titles are lent read-only. */
 #define _DEFAULT_SOURCE
 #include "girthladder.h"
@@ -189,6 +189,78 @@ static void each_refusal(void) {
     refused(wide, 3 * 256, long_title, 1025, GIRTHLADDER_LARGE, 0, 0);
 }
 
+/* The answer of reading these bytes. */
+static struct girthladder_answer reading(const void *bytes, size_t size, struct lent *canvas, struct lent *table, struct lent *titles, int null) {
+    struct lent picture = read_only(bytes, size), five = lend(sizeof(struct girthladder_answer));
+    struct girthladder_answer a, *answer = (struct girthladder_answer *)five.at;
+    girthladder_read(pointer(&picture, null), size, (uint32_t *)pointer(canvas, null), canvas->size / 4, (uint32_t *)pointer(table, null),
+                     table->size / 4, (uint8_t *)pointer(titles, null), titles->size, answer);
+    CHECK(marked(&five, sizeof a));
+    a = *answer;
+    CHECK(a.width == 0 && a.height == 0 && a.untitled == 0);
+    give_back(&five);
+    give_back(&picture);
+    return a;
+}
+
+/* The example read back with this much memory: what is answered, and what is left in all three. */
+static void read_back(size_t cells, size_t entries, size_t bytes, int null) {
+    static const uint32_t plan[] = {0, 0, 1, 1, 1, 1, 1, 2, 1};
+    struct lent canvas = lend(4 * cells), table = lend(4 * entries), titles = lend(bytes);
+    struct girthladder_answer a = reading(picture, BYTES, &canvas, &table, &titles, null);
+    int done = cells >= CELLS && entries >= 9 && bytes >= 3;
+    if (cells < CELLS) CHECK(is(a, GIRTHLADDER_CANVAS, CELLS) && marked(&canvas, 0));
+    else CHECK(((const uint32_t *)canvas.at)[4 * 18 + 8] == 'a' && marked(&canvas, 4 * CELLS));
+    if (cells >= CELLS && entries < 9) CHECK(is(a, GIRTHLADDER_ROOM, 9));
+    if (cells >= CELLS && entries >= 9 && bytes < 3) CHECK(is(a, GIRTHLADDER_ROOM, 3));
+    if (done) CHECK(is(a, GIRTHLADDER_DONE, 3) && memcmp(table.at, plan, sizeof plan) == 0 && memcmp(titles.at, "abc", 3) == 0);
+    CHECK(marked(&table, done ? sizeof plan : 0) && marked(&titles, done ? 3 : 0));
+    give_back(&canvas);
+    give_back(&table);
+    give_back(&titles);
+}
+
+/* A picture that is not accepted: this number; the table and the titles stay, and the canvas where it is told so. */
+static void not_read(const void *bytes, size_t size, uint64_t number, int canvas_stays) {
+    for (int null = 0; null < 2; null++) {
+        struct lent canvas = lend(4 * 4000), table = lend(4 * 768), titles = lend(999);
+        CHECK(is(reading(bytes, size, &canvas, &table, &titles, null), number, 0));
+        CHECK(marked(&table, 0) && marked(&titles, 0) && (!canvas_stays || marked(&canvas, 0)));
+        give_back(&canvas);
+        give_back(&table);
+        give_back(&titles);
+    }
+}
+
+static void each_reading(void) {
+    static uint8_t hurt[sizeof picture], large[1024 + 1 + 1024];
+    for (int null = 0; null < 2; null++) {
+        for (size_t cells = 0; cells < CELLS + 20; cells++) read_back(cells, 9, 3, null);
+        for (size_t entries = 0; entries < 20; entries++) read_back(CELLS, entries, 3, null);
+        for (size_t bytes = 0; bytes < 20; bytes++) read_back(CELLS, 9, bytes, null);
+        read_back(CELLS, 8, 2, null);
+    }
+    not_read(NULL, 0, GIRTHLADDER_UNDRAWN, 1);
+    not_read("a", 1, GIRTHLADDER_UNDRAWN, 1);
+    not_read(picture, BYTES - 1, GIRTHLADDER_UNDRAWN, 1);
+    not_read("\xC0\x80\n", 3, GIRTHLADDER_UTF8, 1);
+    not_read("\n", 1, GIRTHLADDER_UNDRAWN, 1);
+    memset(large, 'x', 1024);
+    memset(large + 1024, '\n', 1025);
+    not_read(large, sizeof large, GIRTHLADDER_LARGE, 1);
+    for (size_t k = 0; k + 1 < sizeof picture; k++) {
+        struct lent canvas = lend(4 * 4000), table = lend(4 * 768), titles = lend(999);
+        memcpy(hurt, picture, sizeof picture);
+        hurt[k] = hurt[k] == 'x' ? 'y' : 'x';
+        struct girthladder_answer a = reading(hurt, BYTES, &canvas, &table, &titles, 0);
+        /* a letter changed is another plan; all else is none */
+        CHECK(a.number == (picture[k] >= 'a' && picture[k] <= 'c' ? GIRTHLADDER_DONE : a.number == GIRTHLADDER_UTF8 ? GIRTHLADDER_UTF8 : GIRTHLADDER_UNDRAWN));
+        give_back(&canvas);
+        give_back(&table);
+        give_back(&titles);
+    }
+}
+
 int main(void) {
     const uint32_t table[] = {0, 0, 1, 1, 1, 1, 1, 2, 1}, untitled[] = {0, 0, 1, 1, 1, 0, 1, 1, 0};
     struct plan p = plan(table, 9, "abc", 3), empty = plan(NULL, 0, NULL, 0), lost = plan(untitled, 9, "abc", 3);
@@ -207,9 +279,10 @@ int main(void) {
         give_back(&out);
     }
     each_refusal();
+    each_reading();
     forget(&p);
     forget(&empty);
     forget(&lost);
-    printf("C: document 01's example and every refusal, with guarded memory: %ld checks hold\n", checks);
+    printf("C: document 01's example drawn and read back, and every refusal, with guarded memory: %ld checks hold\n", checks);
     return 0;
 }

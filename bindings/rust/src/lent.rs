@@ -34,6 +34,17 @@ extern "C" {
         out_length: usize,
         answer: *mut [u64; 5],
     );
+    fn girthladder_read(
+        picture: *const u8,
+        picture_length: usize,
+        canvas: *mut u32,
+        canvas_length: usize,
+        table: *mut u32,
+        table_length: usize,
+        titles: *mut u8,
+        titles_length: usize,
+        answer: *mut [u64; 5],
+    );
 }
 
 /// A finished drawing.
@@ -86,6 +97,31 @@ pub fn fenced(table: &[u32], titles: &[u8], out: &mut [u8]) -> Result<usize, Ref
     // SAFETY: three slices that do not overlap, lent for the call by pointer and length, and five numbers.
     unsafe { girthladder_fenced(table.as_ptr(), table.len(), titles.as_ptr(), titles.len(), out.as_mut_ptr(), out.len(), &mut five) };
     done(five, table, titles)
+}
+
+/// Reads a picture back: the nodes of its plan to the front of `table`, three numbers each, and the titles one after another to the front
+/// of `titles`; answers how many nodes there are. Where the picture fits on the canvas, its code points are left there. Table and titles
+/// are unchanged by a refusal; 768 entries, and as many title bytes as the picture has, are always enough.
+pub fn read(picture: &[u8], canvas: &mut [u32], table: &mut [u32], titles: &mut [u8]) -> Result<usize, Refusal> {
+    let mut five = [0; 5];
+    // SAFETY: four slices that do not overlap, lent for the call by pointer and length, and five numbers.
+    unsafe {
+        girthladder_read(
+            picture.as_ptr(),
+            picture.len(),
+            canvas.as_mut_ptr(),
+            canvas.len(),
+            table.as_mut_ptr(),
+            table.len(),
+            titles.as_mut_ptr(),
+            titles.len(),
+            &mut five,
+        )
+    };
+    match five[0] {
+        0 => Ok(five[1] as usize),
+        number => Err(Refusal::of_reading(number, five[1])),
+    }
 }
 
 // The bytes written, or the refusal.

@@ -1,12 +1,15 @@
-//! Query plans as trees of boxes and as graphs, by the proved library behind `girthladder.h`.
+//! Query plans as trees of boxes and as graphs, and such trees read back, by the proved library behind `girthladder.h`.
 //!
 //! ```
 //! use girthladder::Plan;
 //! let plan: Plan = [(0, "a"), (1, "b"), (1, "c")].into_iter().collect();
-//! print!("{}", girthladder::draw(&plan).unwrap());
+//! let text = girthladder::draw(&plan).unwrap();
+//! print!("{text}");
+//! assert_eq!(girthladder::read(&text).unwrap(), plan);
 //! ```
 //!
-//! [`draw`], [`dot`] and [`fenced`] lend what is needed and answer a `String`; [`lent`] has the same on memory of the caller's.
+//! [`draw`], [`dot`] and [`fenced`] lend what is needed and answer a `String`, [`read`] a [`Plan`]; [`lent`] has the same on memory of the
+//! caller's.
 
 mod plan;
 mod refusal;
@@ -48,6 +51,21 @@ pub fn dot(plan: &Plan) -> Result<String, Refusal> {
 /// The graph for Graphviz: quotes and line breaks of titles escaped, no name twice.
 pub fn fenced(plan: &Plan) -> Result<String, Refusal> {
     grown(plan, lent::fenced)
+}
+
+/// The one ordinary plan (no title empty, no line of a title ending in a space, within the limits) that is drawn as these very bytes.
+pub fn read(picture: impl AsRef<[u8]>) -> Result<Plan, Refusal> {
+    let picture = picture.as_ref();
+    let (mut table, mut titles) = (vec![0; 3 * MOST_NODES], vec![0; picture.len()]);
+    let cells = match lent::read(picture, &mut [], &mut table, &mut titles) {
+        Err(Refusal::Canvas { needed }) => needed,
+        Err(refusal) => return Err(refusal),
+        Ok(_) => unreachable!("a picture has cells"),
+    };
+    let nodes = lent::read(picture, &mut vec![0; cells], &mut table, &mut titles)?;
+    table.truncate(3 * nodes);
+    titles.truncate(table.chunks(3).map(|node| node[2] as usize).sum());
+    Ok(Plan::of_parts(table, titles))
 }
 
 // A graph in as many bytes as it needs.

@@ -28,6 +28,11 @@ impl Plan {
         self.table.extend_from_slice(&[depth, start, length]);
     }
 
+    // A plan whose table and titles are these.
+    pub(crate) fn of_parts(table: Vec<u32>, titles: Vec<u8>) -> Plan {
+        Plan { table, titles }
+    }
+
     /// How many nodes there are.
     pub fn nodes(&self) -> usize {
         self.table.len() / 3

@@ -1,8 +1,8 @@
-//! Why a plan was not drawn, in words.
+//! Why a plan was not drawn, or a picture not read, in words.
 
 use std::fmt;
 
-/// Why there is no drawing or graph. `to_string` says it in words, with the node; nodes are counted from 0.
+/// Why there is no drawing, graph or plan. `to_string` says it in words, with the node; nodes are counted from 0.
 #[derive(Clone, Copy, Debug, PartialEq, Eq)]
 #[non_exhaustive]
 pub enum Refusal {
@@ -24,6 +24,12 @@ pub enum Refusal {
     Canvas { needed: usize },
     /// 9: the lent output is too short.
     Room { needed: usize },
+    /// 6: the picture is not valid UTF-8; reading only.
+    NotText,
+    /// 9: the lent table is too short, `needed` entries; else the lent titles are, `needed` bytes; reading only.
+    Short { needed: usize },
+    /// 10: no ordinary plan is drawn as this picture; reading only.
+    Undrawn,
 }
 
 impl Refusal {
@@ -39,6 +45,22 @@ impl Refusal {
             Refusal::Large => 7,
             Refusal::Canvas { .. } => 8,
             Refusal::Room { .. } => 9,
+            Refusal::NotText => 6,
+            Refusal::Short { .. } => 9,
+            Refusal::Undrawn => 10,
+        }
+    }
+
+    // From the first two numbers of a reading.
+    pub(crate) fn of_reading(number: u64, second: u64) -> Refusal {
+        let needed = second as usize;
+        match number {
+            6 => Refusal::NotText,
+            7 => Refusal::Large,
+            8 => Refusal::Canvas { needed },
+            9 => Refusal::Short { needed },
+            10 => Refusal::Undrawn,
+            _ => unreachable!("a reading answers 0 or 6 to 10"),
         }
     }
 
@@ -83,6 +105,9 @@ impl fmt::Display for Refusal {
             Refusal::Large => write!(f, "the drawing has more than {} cells", crate::MOST_CELLS),
             Refusal::Canvas { needed } => write!(f, "the canvas is too short: the drawing needs {needed} cells"),
             Refusal::Room { needed } => write!(f, "the output is too short: {needed} bytes are needed"),
+            Refusal::NotText => write!(f, "the picture is not valid UTF-8"),
+            Refusal::Short { needed } => write!(f, "the table or the titles are too short: {needed} entries, or else bytes, are needed"),
+            Refusal::Undrawn => write!(f, "no ordinary plan is drawn as this picture"),
         }
     }
 }

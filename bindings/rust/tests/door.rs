@@ -1,5 +1,5 @@
-//! Document 01's example and every refusal, through `draw`, `dot`, `fenced` and on lent memory with marked numbers around each buffer.
-use girthladder::{dot, draw, fenced, lent, Plan, Refusal};
+//! Document 01's example and every refusal, through `draw`, `dot`, `fenced`, `read` and on lent memory with marked numbers around each buffer.
+use girthladder::{dot, draw, fenced, lent, read, Plan, Refusal};
 
 const PICTURE: &str = "        0      1
    ┌──────────────
@@ -137,6 +137,68 @@ fn each_refusal_of_a_plan() {
     assert_eq!(said(&plan(&[(0, "a"), (1, &long)])), (5, "the title of node 1 has 1025 bytes, and at most 1024 can be shown".into()));
     assert_eq!(said(&wide), (7, "the drawing has more than 1048576 cells".into()));
     assert!(dot(&wide).is_ok());
+}
+
+#[test]
+fn drawings_are_read_back() {
+    assert_eq!(read(PICTURE), Ok(example()));
+    let long = "│ ╭╮ ".repeat(40) + "x";
+    for p in [
+        plan(&[(0, "SELECT\n\n[μ]"), (1, "╭─╮\n│ │\n╰─╯"), (2, "\n"), (1, &long)]),
+        (0..32).map(|k| (k, format!("level {k}\nsecond line"))).collect(),
+        (0..256).map(|k| (usize::from(k > 0), format!("{k}"))).collect(),
+    ] {
+        assert_eq!(read(draw(&p).unwrap()), Ok(p));
+    }
+    // what is not ordinary: a title that is empty, a line that ends in a space
+    assert_eq!(read(draw(&plan(&[(0, "A"), (1, "B"), (1, ""), (2, "C")])).unwrap()), Err(Refusal::Undrawn));
+    assert_eq!(read(draw(&plan(&[(0, "a ")])).unwrap()), Err(Refusal::Undrawn));
+    assert_eq!(read(draw(&plan(&[(0, "ab\na ")])).unwrap()), Ok(plan(&[(0, "ab\na")])));
+}
+
+#[test]
+fn each_refusal_of_a_picture() {
+    let said = |picture: &[u8]| {
+        let refusal = read(picture).unwrap_err();
+        (refusal.number(), refusal.to_string())
+    };
+    let undrawn = (10, "no ordinary plan is drawn as this picture".to_string());
+    assert_eq!(said(b"\xC0\x80\n"), (6, "the picture is not valid UTF-8".into()));
+    assert_eq!(said(&[&[b'x'; 1024][..], &[b'\n'; 1025][..]].concat()), (7, "the drawing has more than 1048576 cells".into()));
+    for picture in ["", "\n", "a", "a\n", &PICTURE[..PICTURE.len() - 1], &PICTURE.replace("│ a │", "│ a │ "), &PICTURE.replacen('─', "━", 1)] {
+        assert_eq!(said(picture.as_bytes()), undrawn);
+    }
+}
+
+#[test]
+fn reading_on_lent_memory() {
+    for (cells, entries, bytes) in [(CELLS, 9, 3), (CELLS - 1, 9, 3), (CELLS, 8, 3), (CELLS, 9, 2), (CELLS, 0, 0), (0, 0, 0), (CELLS + 9, 20, 20)] {
+        let mut canvas = vec![0xA5A5A5A5u32; cells + 2 * MARGIN];
+        let mut table = vec![0xA5A5A5A5u32; entries + 2 * MARGIN];
+        let mut titles = vec![0xA5u8; bytes + 2 * MARGIN];
+        let answer = lent::read(
+            PICTURE.as_bytes(),
+            &mut canvas[MARGIN..MARGIN + cells],
+            &mut table[MARGIN..MARGIN + entries],
+            &mut titles[MARGIN..MARGIN + bytes],
+        );
+        let expected = if cells < CELLS {
+            Err(Refusal::Canvas { needed: CELLS })
+        } else if entries < 9 {
+            Err(Refusal::Short { needed: 9 })
+        } else if bytes < 3 {
+            Err(Refusal::Short { needed: 3 })
+        } else {
+            Ok(3)
+        };
+        assert_eq!(answer, expected);
+        let (laid, listed, spelled) = (if cells < CELLS { 0 } else { CELLS }, 9 * usize::from(answer.is_ok()), 3 * usize::from(answer.is_ok()));
+        assert!(unchanged(&canvas[..MARGIN], &titles[..MARGIN]) && unchanged(&table[..MARGIN], &[]));
+        assert!(unchanged(&canvas[MARGIN + laid..], &titles[MARGIN + spelled..]) && unchanged(&table[MARGIN + listed..], &[]));
+        if answer.is_ok() {
+            assert_eq!((&table[MARGIN..MARGIN + 9], &titles[MARGIN..MARGIN + 3]), (&TABLE[..], &b"abc"[..]));
+        }
+    }
 }
 
 // A stand-in for polars-plan's TreeFmtNode, handed over as the README shows.

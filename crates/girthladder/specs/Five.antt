@@ -1,9 +1,14 @@
 -- The five numbers of an answer, as they lie in the lent memory: number, second number, width, height, untitled nodes.
+use mathlib.Core.Path.{_≡_}
 use mathlib.Core.List.{List, [], _∷_}
 use Prim.Native.Nat.{ℕ}
-use Rattle.rules.specs.Numbers.{number, second}
+use lib.ListN.{length}
+use Rattle.rules.specs.Numbers.{number, second, readerNumber, readerSecond}
+use Rattle.rules.specs.Drawing.{boxes}
+use Rattle.rules.specs.Reader.{Reads}
 use Rattle.rules.specs.declared.Answer.{Answer}
 use Rattle.rules.specs.declared.Drawing.{Drawing}
+use Rattle.rules.specs.declared.Reading.{Reading}
 
 -- of a drawing
 unfoldable pub drawingFive : Drawing → List ℕ
@@ -12,3 +17,13 @@ drawingFive d = number (d .answer) ∷ second (d .answer) ∷ d .width ∷ d .he
 -- of a graph, which has no width, height or untitled count
 unfoldable pub graphFive : Answer → List ℕ
 graphFive a = number a ∷ second a ∷ 0 ∷ 0 ∷ 0 ∷ []
+
+-- of a reading, which has none of the three either
+unfoldable pub readingFive : Reading → List ℕ
+readingFive r = readerNumber r ∷ readerSecond r ∷ 0 ∷ 0 ∷ 0 ∷ []
+
+-- the whole promise of the reader, its reading told by the five numbers
+pub record ReadFive (P canvas table titles canvas′ table′ titles′ answer : List ℕ) : Type 0 where
+  pub reading : Reading
+  pub reads : Reads length boxes P canvas table titles reading canvas′ table′ titles′
+  pub answered : answer ≡ readingFive reading

@@ -1,12 +1,13 @@
-// The door for C and Rust: drawing and graphs on lent memory, the answer as five numbers.
+// The door for C and Rust: drawing, graphs and reading on lent memory, the answer as five numbers.
 ghost use mathlib.Core.Path.{_≡_};
 ghost use lib.ListN.{length};
 ghost use Rattle.rules.specs.Drawing.{boxes};
 ghost use Rattle.rules.specs.Graph.{bare, fenced};
 ghost use Rattle.rules.specs.Answers.{drawing, canvasAfter, outAfter, graphAnswer, graphAfter};
-ghost use Rattle.girthladder.specs.Five.{drawingFive, graphFive};
+ghost use Rattle.girthladder.specs.Five.{drawingFive, graphFive, readingFive, ReadFive};
 use rules::Answer;
 use rules::Drawing;
+use rules::Reading;
 
 // The same number.
 fn small(n: u32) -> u64
@@ -41,6 +42,19 @@ fn graph_five(a: Answer) -> [u64; 5]
     ensures { λ r. ⌜ r ≡ graphFive a ⌝ }
 {
     [small(rules::number(a)), same(rules::second(a)), 0, 0, 0]
+}
+
+// The five numbers of a reading.
+fn reading_five(r: Reading) -> [u64; 5]
+    ensures { λ a. ⌜ a ≡ readingFive r ⌝ }
+{
+    [
+        small(rules::reading_number(r)),
+        same(rules::reading_second(r)),
+        0,
+        0,
+        0,
+    ]
 }
 
 // Draws a plan on the lent canvas and writes its text to `out`.
@@ -88,4 +102,20 @@ pub extern "C" fn girthladder_fenced(
 {
     let a = tree_format::tree_fmt_fenced(table, titles, out);
     *answer = graph_five(a);
+}
+
+// Reads a picture back: its plan into `table` and `titles`.
+#[no_mangle]
+pub extern "C" fn girthladder_read(
+    picture: &[u8],
+    canvas: &mut [u32],
+    table: &mut [u32],
+    titles: &mut [u8],
+    answer: &mut [u64; 5],
+)
+    ensures { λ _. ⌜ ReadFive (now (picture .entry)) (now (canvas .entry)) (now (table .entry)) (now (titles .entry))
+        (now (canvas .exit)) (now (table .exit)) (now (titles .exit)) (now (answer .exit)) ⌝ }
+{
+    let r = picture::read(picture, canvas, table, titles);
+    *answer = reading_five(r);
 }
