@@ -22,7 +22,7 @@ use Rattle.gather.proofs.Growing.{none-yet, one-more, all-gathered}
 use Rattle.gather.proofs.Titles.{judged}
 use Rattle.gather.proofs.Judged.{seen-here, lines-here, longest-here, fits, refused, too-many}
 
--- a constant is not the other
+-- true is not false
 true-false : {A : Type 0} → true ≡ false → A
 true-false e = let z : _≡_ {A = ℕ} 0 1 = cc in absurd (omega arith)
 
@@ -53,7 +53,7 @@ module _ (cells : List ℕ) (w h : ℕ) where
         → (bad ≡ false → Gathered cells w h nodes bytes table middle lines most) × (bad ≡ true → Misfit cells w h)
     answer-all n e p = (λ g. all-gathered cells w h (rw (before-all cells w h n e) at p), λ g. true-false (sym g ∙ f))
 
-module _ {cells cx band cy : List ℕ} {w h : ℕ} (known : Known cells w h cx band cy) (i j : ℕ) where
+module _ {cells cx band cy : List ℕ} {w h : ℕ} (known : Known cells w h cx band cy) {i j : ℕ} where
   module _
       (column : j < outside (seen cells w h) w h .nc)
       (row : i < outside (seen cells w h) w h .nr)

@@ -12,7 +12,7 @@ abbrev pub linesFrom : (ℕ → ℕ → ℕ) → ℕ → ℕ → ℕ → ℕ →
 linesFrom g x y t n = map (λ r. lineAt g x (y + r) t) (from 0 n)
 
 -- the bytes of these lines, joined, where they may be the title of a box with the middle cx: half of the cells stand left of it, the
--- longest line fills them, and there are at most 1,024 bytes; else 0
+-- longest line fills them, and there are at most 1,025 lines and 1,024 bytes; else 0
 unfoldable pub titleSize : (ℕ → ℕ → ℕ) → ℕ → ℕ → ℕ → ℕ → ℕ → ℕ
 titleSize g cx x y t n =
     pick (leb n 1025 && eqb (x + halfUp t) cx && leb (length (joined (linesFrom g x y t n))) 1024 && eqb (greatest length (linesFrom g x y t n)) t)

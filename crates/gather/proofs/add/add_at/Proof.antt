@@ -18,7 +18,8 @@ mul-x c = search needs
 element-copy-out-x : tie.Need-element-copy-out-x
 element-copy-out-x c =
     let s = c .before .before .before in
-    column-few (s .pre .0 .0) (s .args .i) (s .args .j) (s .pre .0 .1) (s .pre .0 .2) (c .before .wide .ensures) (c .wide2 .ensures)
+    let p = s .pre .0 in
+    column-few (p .0) (p .1) (p .2) (c .before .wide .ensures) (c .wide2 .ensures)
 
 mul-label-at : tie.Need-mul-label-at
 mul-label-at c = search needs
@@ -26,7 +27,8 @@ mul-label-at c = search needs
 element-copy-out-label-at : tie.Need-element-copy-out-label-at
 element-copy-out-label-at c =
     let s = c .before .before .before .before in
-    row-few (s .pre .0 .0) (s .args .i) (s .args .j) (s .pre .0 .1) (s .pre .0 .2) (c .before .before .wide .ensures) (c .before .wide2 .ensures)
+    let p = s .pre .0 in
+    row-few (p .0) (p .1) (p .2) (c .before .before .wide .ensures) (c .before .wide2 .ensures)
 
 mul-label-at-2 : tie.Need-mul-label-at-2
 mul-label-at-2 c = search needs
@@ -34,42 +36,53 @@ mul-label-at-2 c = search needs
 element-copy-out-label-at-2 : tie.Need-element-copy-out-label-at-2
 element-copy-out-label-at-2 c =
     let s = c .before .before .before .before .before in
-    row-few (s .pre .0 .0) (s .args .i) (s .args .j) (s .pre .0 .1) (s .pre .0 .2) (c .before .before .before .wide .ensures) (c .before .before .wide2 .ensures)
+    let p = s .pre .0 in
+    row-few (p .0) (p .1) (p .2) (c .before .before .before .wide .ensures) (c .before .before .wide2 .ensures)
 
 label-at-requires : tie.Need-label-at-requires
 label-at-requires c κs =
     let s = c .before .before .before .before .before .before in
-    let k = cx-within (s .pre .0 .0) (s .args .i) (s .args .j) (s .pre .0 .1) (s .pre .0 .2) (c .before .before .before .before .wide .ensures) (c .before .before .before .wide2 .ensures) in
-    (s .pre .0 .0 .held, cy-within (s .pre .0 .0) (s .args .i) (s .args .j) (s .pre .0 .1) (s .pre .0 .2) (c .before .before .before .before .wide .ensures) (c .before .before .before .wide2 .ensures), omega (arith, k))
+    let p = s .pre .0 in
+    let k = cx-within (p .0) (p .1) (p .2) (c .before .before .before .before .wide .ensures) (c .before .before .before .wide2 .ensures) in
+    (p .0 .held, cy-within (p .0) (p .1) (p .2) (c .before .before .before .before .wide .ensures) (c .before .before .before .wide2 .ensures), omega (arith, k))
 
 returns : tie.Need-returns
 returns c =
-    let s = c .before .before .before .before .before .before .before .before .before in
-    answer-none (s .pre .0 .0) (s .args .i) (s .args .j) (s .pre .0 .1) (s .pre .0 .2) (c .before .before .before .before .before .before .before .wide .ensures) (c .before .before .before .before .before .before .wide2 .ensures) (c .before .before .label-at .ensures) (s .pre .1 .1) (s .pre .1 .0) (c .if1 .taken)
+    let a = c .before .before in
+    let s = a .before .before .before .before .before .before .before in
+    let p = s .pre .0 in
+    answer-none (p .0) (p .1) (p .2) (a .before .before .before .before .before .wide .ensures) (a .before .before .before .before .wide2 .ensures) (a .label-at .ensures) (s .pre .1 .1) (s .pre .1 .0) (c .if1 .taken)
 
 none-requires : tie.Need-none-requires
 none-requires c κs = search needs
 
 returns-2 : tie.Need-returns-2
 returns-2 c =
-    let s = c .before .before .before .before .before .before .before .before .before .before .before in
-    answer-bad (c .none .ensures) (answer-many (s .pre .0 .0) (s .args .i) (s .args .j) (s .pre .0 .1) (s .pre .0 .2) (c .before .before .before .before .before .before .before .before .before .wide .ensures) (c .before .before .before .before .before .before .before .before .wide2 .ensures) (c .before .before .before .before .label-at .ensures) (s .pre .1 .1) (omega (arith, c .before .before .if1 .left)) (omega (arith, c .before .if2 .taken)))
+    let a = c .before .before .before .before in
+    let s = a .before .before .before .before .before .before .before in
+    let p = s .pre .0 in
+    answer-bad (c .none .ensures)
+    (answer-many (p .0) (p .1) (p .2) (a .before .before .before .before .before .wide .ensures) (a .before .before .before .before .wide2 .ensures) (a .label-at .ensures) (s .pre .1 .1) (omega (arith, c .before .before .if1 .left)) (omega (arith, c .before .if2 .taken)))
 
 title-size-requires : tie.Need-title-size-requires
 title-size-requires c κs =
-    let s = c .before .before .before .before .before .before .before .before .before .before in
-    let some : 1 ≤ c .before .before .before .label-at .result .lines = omega (arith, c .before .if1 .left) in
-    let (a, b) = label-within (s .pre .0 .0) (s .args .i) (s .args .j) (s .pre .0 .1) (s .pre .0 .2) (c .before .before .before .before .before .before .before .before .wide .ensures) (c .before .before .before .before .before .before .before .wide2 .ensures) (c .before .before .before .label-at .ensures) some in
-    (s .pre .0 .0 .held, a, b, some)
+    let a = c .before .before .before in
+    let s = a .before .before .before .before .before .before .before in
+    let p = s .pre .0 in
+    let some : 1 ≤ a .label-at .result .lines = omega (arith, c .before .if1 .left) in
+    let (q, r) = label-within (p .0) (p .1) (p .2) (a .before .before .before .before .before .wide .ensures) (a .before .before .before .before .wide2 .ensures) (a .label-at .ensures) some in
+    (p .0 .held, q, r, some)
 
 none-requires-2 : tie.Need-none-requires-2
 none-requires-2 c κs = search needs
 
 returns-3 : tie.Need-returns-3
 returns-3 c =
-    let s = c .before .before .before .before .before .before .before .before .before .before .before .before .before in
+    let a = c .before .before .before .before .before .before in
+    let s = a .before .before .before .before .before .before .before in
+    let p = s .pre .0 in
     answer-bad (c .none2 .ensures)
-    (answer-unfit (s .pre .0 .0) (s .args .i) (s .args .j) (s .pre .0 .1) (s .pre .0 .2) (c .before .before .before .before .before .before .before .before .before .before .before .wide .ensures) (c .before .before .before .before .before .before .before .before .before .before .wide2 .ensures) (c .before .before .before .before .before .before .label-at .ensures) (s .pre .1 .1) (omega (arith, c .before .before .before .before .if1 .left)) (c .before .before .title-size .ensures) (c .before .if3 .taken))
+    (answer-unfit (p .0) (p .1) (p .2) (a .before .before .before .before .before .wide .ensures) (a .before .before .before .before .wide2 .ensures) (a .label-at .ensures) (s .pre .1 .1) (omega (arith, c .before .before .before .before .if1 .left)) (c .before .before .title-size .ensures) (c .before .if3 .taken))
 
 cast-store : tie.Need-cast-store
 cast-store c =
@@ -78,8 +91,10 @@ cast-store c =
 
 cast-store-2 : tie.Need-cast-store-2
 cast-store-2 c =
-    let s = c .before .before .before .before .before .before .before .before .before .before .before .before .before in
-    record { fits = omega (arith, size-small (s .pre .0 .0) (s .args .i) (s .args .j) (s .pre .0 .1) (s .pre .0 .2) (c .before .before .before .before .before .before .before .before .before .before .before .wide .ensures) (c .before .before .before .before .before .before .before .before .before .before .wide2 .ensures) (c .before .before .before .before .before .before .label-at .ensures) (s .pre .1 .1) (omega (arith, c .before .before .before .before .if1 .left)) (c .before .before .title-size .ensures) (c .before .if3 .left)) }
+    let a = c .before .before .before .before .before .before in
+    let s = a .before .before .before .before .before .before .before in
+    let p = s .pre .0 in
+    record { fits = omega (arith, size-small (p .0) (p .1) (p .2) (a .before .before .before .before .before .wide .ensures) (a .before .before .before .before .wide2 .ensures) (a .label-at .ensures) (s .pre .1 .1) (omega (arith, c .before .before .before .before .if1 .left)) (c .before .before .title-size .ensures) (c .before .if3 .left)) }
 
 store-requires : tie.Need-store-requires
 store-requires c κs = search needs
@@ -89,15 +104,23 @@ add-t19 c = search needs
 
 add-t20 : tie.Need-add-t20
 add-t20 c =
-    let s = c .before .before .before .before .before .before .before .before .before .before .before .before .before .before .before .before .before .before .before in
-    let k = size-small (s .pre .0 .0) (s .args .i) (s .args .j) (s .pre .0 .1) (s .pre .0 .2) (c .before .before .before .before .before .before .before .before .before .before .before .before .before .before .before .before .before .wide .ensures) (c .before .before .before .before .before .before .before .before .before .before .before .before .before .before .before .before .wide2 .ensures) (c .before .before .before .before .before .before .before .before .before .before .before .before .label-at .ensures) (s .pre .1 .1) (omega (arith, c .before .before .before .before .before .before .before .before .before .before .if1 .left)) (c .before .before .before .before .before .before .before .before .title-size .ensures) (c .before .before .before .before .before .before .before .if3 .left) in
+    let t = c .before .before .before .before .before .before .before .before in
+    let a = c .before .before .before .before .before .before .before .before .before .before .before .before in
+    let s = a .before .before .before .before .before .before .before in
+    let p = s .pre .0 in
+    let k = size-small (p .0) (p .1) (p .2) (a .before .before .before .before .before .wide .ensures) (a .before .before .before .before .wide2 .ensures) (a .label-at .ensures) (s .pre .1 .1) (omega (arith, t .before .before .if1 .left)) (t .title-size .ensures) (c .before .before .before .before .before .before .before .if3 .left) in
     record { fits = omega (arith, k, s .pre .1 .1 .bounded, s .pre .1 .1 .few) }
 
 returns-4 : tie.Need-returns-4
 returns-4 c =
-    let s = c .before .before .before .before .before .before .before .before .before .before .before .before .before .before .before .before .before .before .before in
+    let t = c .before .before .before .before .before .before .before .before in
+    let a = c .before .before .before .before .before .before .before .before .before .before .before .before in
+    let s = a .before .before .before .before .before .before .before in
+    let p = s .pre .0 in
+    let l = c .before .store .last .1 .1 .1 .1 .1 .1 .1 in
     let e = c .before .store .ensures in
-    answer-added (s .pre .0 .0) (s .args .i) (s .args .j) (s .pre .0 .1) (s .pre .0 .2) (c .before .before .before .before .before .before .before .before .before .before .before .before .before .before .before .before .before .wide .ensures) (c .before .before .before .before .before .before .before .before .before .before .before .before .before .before .before .before .wide2 .ensures) (c .before .before .before .before .before .before .before .before .before .before .before .before .label-at .ensures) (s .pre .1 .1) (omega (arith, c .before .before .before .before .before .before .before .before .before .before .if1 .left)) (c .before .before .before .before .before .before .before .before .title-size .ensures) (c .before .before .before .before .before .before .before .if3 .left) (omega (arith, c .before .before .before .before .before .before .before .before .before .if2 .left)) (e .0) (e .1 .0) (e .1 .1 .0) (e .1 .1 .1)
+    answer-added (p .0) (p .1) (p .2) (a .before .before .before .before .before .wide .ensures) (a .before .before .before .before .wide2 .ensures) (a .label-at .ensures) (s .pre .1 .1) (omega (arith, t .before .before .if1 .left)) (t .title-size .ensures) (c .before .before .before .before .before .before .before .if3 .left) {table′ = l .0} {middle′ = l .1 .0} {ls′ = l .1 .1 .0} {most′ = l .1 .1 .1 .0} (omega (arith, t .before .if2 .left))
+    (e .0) (e .1 .0) (e .1 .1 .0) (e .1 .1 .1)
 
 pub add-at-spec : {M : Type 1} → statement M
 add-at-spec =

@@ -1,5 +1,6 @@
 -- The tests come one after another; each answer is the title's size by the tests that are passed.
 use native.Mathlib.Omega.{arith}
+use Rattle.sight.specs.Seen.{seen}
 use Rattle.gather.proofs.Titles.{half-le, size-lined, size-beside, size-long, size-loose, size-is}
 use borrow.Author.Needs.{needs}
 use Rattle.gather.proofs.add.title_size.Statement.{statement}
@@ -26,16 +27,25 @@ block-sizes-requires : tie.Need-block-sizes-requires
 block-sizes-requires c κs = search needs
 
 returns-3 : tie.Need-returns-3
-returns-3 c = size-long _ _ _ _ _ _ (c .before .before .before .before .before .before .before .if1 .left) (c .before .before .before .before .before .before .half-up .ensures) (c .before .before .before .before .if2 .left) (c .before .before .block-sizes .ensures .0) (c .before .before .block-sizes .ensures .1) (c .if3 .taken)
+returns-3 c =
+    let s = c .before .before .before .before .before .before .before .before .before .before .args in
+    let b = c .before .before in
+    size-long (seen (s .cells .now) (s .width) (s .height)) _ _ _ _ _ (b .before .before .before .before .before .if1 .left) (b .before .before .before .before .half-up .ensures) (b .before .before .if2 .left) (b .block-sizes .ensures .0) (b .block-sizes .ensures .1) (c .if3 .taken)
 
 wide-requires : tie.Need-wide-requires
 wide-requires c κs = search needs
 
 returns-4 : tie.Need-returns-4
-returns-4 c = size-loose _ _ _ _ _ _ (c .before .before .before .before .before .before .before .before .before .before .if1 .left) (c .before .before .before .before .before .before .before .before .before .half-up .ensures) (c .before .before .before .before .before .before .before .if2 .left) (c .before .before .before .before .before .block-sizes .ensures .0) (c .before .before .before .before .before .block-sizes .ensures .1) (c .before .before .before .if3 .left) (c .before .before .wide .ensures) (c .if4 .taken)
+returns-4 c =
+    let s = c .before .before .before .before .before .before .before .before .before .before .before .before .before .args in
+    let b = c .before .before .before .before .before in
+    size-loose (seen (s .cells .now) (s .width) (s .height)) _ _ _ _ _ (b .before .before .before .before .before .if1 .left) (b .before .before .before .before .half-up .ensures) (b .before .before .if2 .left) (b .block-sizes .ensures .0) (b .block-sizes .ensures .1) (c .before .before .before .if3 .left) (c .before .before .wide .ensures) (c .if4 .taken)
 
 returns-5 : tie.Need-returns-5
-returns-5 c = size-is _ _ _ _ _ _ (c .before .before .before .before .before .before .before .before .before .before .if1 .left) (c .before .before .before .before .before .before .before .before .before .half-up .ensures) (c .before .before .before .before .before .before .before .if2 .left) (c .before .before .before .before .before .block-sizes .ensures .0) (c .before .before .before .before .before .block-sizes .ensures .1) (c .before .before .before .if3 .left) (c .before .before .wide .ensures) (c .if4 .left)
+returns-5 c =
+    let s = c .before .before .before .before .before .before .before .before .before .before .before .before .before .args in
+    let b = c .before .before .before .before .before in
+    size-is (seen (s .cells .now) (s .width) (s .height)) _ _ _ _ _ (b .before .before .before .before .before .if1 .left) (b .before .before .before .before .half-up .ensures) (b .before .before .if2 .left) (b .block-sizes .ensures .0) (b .block-sizes .ensures .1) (c .before .before .before .if3 .left) (c .before .before .wide .ensures) (c .if4 .left)
 
 pub title-size-spec : {M : Type 1} → statement M
 title-size-spec =
