@@ -1,5 +1,5 @@
 -- The numbers of a plan that can be drawn say where its columns and rows are; and inside the picture what is seen are its cells.
-use mathlib.Core.Path.{_≡_, refl, ap, sym, _∙_}
+use mathlib.Core.Path.{_≡_, refl}
 use mathlib.Core.List.{List}
 use mathlib.Core.Bool.{_&&_}
 use Prim.Native.Nat.{ℕ, _+_, _*_, _-_, _≤_, _<_}
@@ -10,8 +10,7 @@ use borrow.Author.Tests.{lt-ltb}
 use Rattle.rules.specs.Measures as M
 use Rattle.rules.specs.Base.{pick}
 use Rattle.rules.specs.Lines.{digits}
-use Rattle.rules.specs.Plan.{Node}
-use Rattle.rules.specs.Levels.{view}
+use Rattle.rules.specs.Levels.{View, view}
 use Rattle.rules.specs.Drawing.{boxes}
 use Rattle.rules.proofs.Bounds.{Small}
 use Rattle.marks.specs.Alike.{alikeIn}
@@ -22,6 +21,7 @@ use Rattle.marks.proofs.Picture.{laid}
 use Rattle.marks.proofs.Reading.{wide-low, high-low}
 use Rattle.tree_view.proofs.Limits.{columns-le, rows-le}
 use Rattle.sight.specs.Seen.{seen}
+use Rattle.sight.specs.Plan.{planSeen}
 use Rattle.edges.specs.Edge.{Roomy, Across, Down}
 use Rattle.edges.proofs.Heads.{is-roomy}
 
@@ -42,25 +42,29 @@ by-cells cells w h a q m k l e =
     rw (seen-block cells w h m 0 w 0 3 (omega arith) (omega arith), z, seen-block cells w h m 0 (a + 2) 3 h (omega arith) (omega arith))
 
 -- what the numbers of a plan give, in n cells
-pub record Ready (p : List Node) (w h ncols nrows a n : ℕ) (cx xs cy ys : List ℕ) : Type 0 where
-  pub across : Across (view p) w ncols a cx xs
-  pub down : Down (view p) w h nrows a cy ys
+pub record Ready (v : View) (w h ncols nrows a n : ℕ) (cx xs cy ys : List ℕ) : Type 0 where
+  pub across : Across v w ncols a cx xs
+  pub down : Down v w h nrows a cy ys
   pub room : Roomy w ncols cx xs
   pub narrow : a + 2 < w
   pub high : 5 ≤ h
   pub three-rows : 3 * w ≤ n
 
-module _ (p : List Node) (dr : Drawable p) (sm : Small p) (w h ncols nrows n : ℕ) (cx xs cy ys : List ℕ) (fits : w * h ≤ n)
-    (nm : Numbers (view p) w h ncols nrows cx xs cy ys) where
+module _ (cells : List ℕ) (w h ncols nrows : ℕ) (cx xs cy ys : List ℕ)
+    (given : (w * h ≤ length cells) × (w * h ≤ 1048576) × Drawable (planSeen cells w h) × Small (planSeen cells w h)
+    × Numbers (view (planSeen cells w h)) w h ncols nrows cx xs cy ys) where
   pub rows-some : (0 < nrows) × (nrows ≤ 256)
   rows-some =
-      let l = laid length boxes p dr in
-      (omega (arith, nm .rows-are, l .proper-view .rowed), omega (arith, nm .rows-are, rows-le p sm))
+      let (fits, small, dr, sm, nm) = given in
+      let l = laid length boxes (planSeen cells w h) dr in
+      (omega (arith, nm .rows-are, l .proper-view .rowed), omega (arith, nm .rows-are, rows-le (planSeen cells w h) sm))
 
   -- r digits of the last row's index, and the axis 2 after them
-  pub ready : (r q : ℕ) → r ≡ length (digits (nrows - 1)) → q ≡ r → Ready p w h ncols nrows (q + 2) n cx xs cy ys
+  pub ready : (r q : ℕ) → r ≡ length (digits (nrows - 1)) → q ≡ r → Ready (view (planSeen cells w h)) w h ncols nrows (q + 2) (length cells) cx xs cy ys
   unfolding M.d
   ready r q f e =
+      let (fits, small, dr, sm, nm) = given in
+      let p = planSeen cells w h in
       let pv = laid length boxes p dr .proper-view in
       let z : q + 2 ≡ M.d (view p) + 2 = rw (e, f, nm .rows-are) in
       let low = wide-low length boxes (view p) pv in

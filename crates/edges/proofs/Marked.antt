@@ -1,22 +1,20 @@
 -- What stands on rows 0 to 2, and left of the columns beside each row: the closed form of a drawing, run by run, by plain numbers.
-use mathlib.Core.Path.{_≡_, refl, ap, sym, _∙_}
-use mathlib.Core.List.{List}
-use mathlib.Core.Bool.{Bool, true, false, _&&_, _||_}
+use mathlib.Core.Path.{_≡_, refl}
+use mathlib.Core.Bool.{true, _||_}
 use Prim.Native.Nat.{ℕ, suc, _+_, _-_, _≤_, _<_}
 use native.Mathlib.Decide.{decLe, ℕ-discrete}
 use native.Mathlib.Omega.{arith}
-use lib.Dec.{leb, ltb, eqb}
-use lib.ListN.{length, getD}
-use borrow.Author.Tests.{eq-eqb, ne-eqb, lt-ltb, le-ltb, le-leb}
+use lib.Dec.{eqb}
+use lib.ListN.{length}
+use borrow.Author.Tests.{eq-eqb, ne-eqb, lt-ltb, le-ltb}
 use Rattle.rules.specs.Measures as M
-use Rattle.rules.specs.Base.{pick, halfUp}
+use Rattle.rules.specs.Base.{pick}
 use Rattle.rules.specs.Lines.{digits}
 use Rattle.rules.specs.Levels.{View}
 use Rattle.rules.specs.Measures.{height, width, rowOffset, columnOffset}
 use Rattle.rules.specs.Drawing.{boxes}
-use Rattle.rules.proofs.Digits.{digits-few, digits-some}
-use Rattle.marks.specs.Whole.{rowHolding, columnHolding, indexAt, headOf, axisOf, marginOf, markAt}
-use Rattle.marks.proofs.Places.{Proper, row, column, top-low}
+use Rattle.marks.specs.Whole.{rowHolding, indexAt, headOf, axisOf, marginOf, markAt}
+use Rattle.marks.proofs.Places.{Proper, row, column}
 use Rattle.marks.proofs.Ends.{lawful}
 use Rattle.marks.proofs.Whole.{column-held, row-held}
 use Rattle.edges.specs.Edge.{indexed, ruled, besideRow}

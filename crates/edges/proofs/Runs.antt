@@ -1,17 +1,16 @@
 -- A run that is compared with the axis or an index is compared piece by piece: on each piece one mark, or a digit, is asked for.
-use mathlib.Core.Path.{_≡_, refl, ap, sym, _∙_}
-use mathlib.Core.List.{List, []}
+use mathlib.Core.Path.{_≡_, refl, sym, _∙_}
 use mathlib.Core.Bool.{Bool, true, false, _&&_}
-use Prim.Native.Nat.{ℕ, suc, _+_, _-_, _≤_, _<_}
+use Prim.Native.Nat.{ℕ, _+_, _-_, _≤_, _<_}
 use native.Mathlib.Numerals.{add-one}
 use native.Mathlib.Omega.{arith}
-use lib.Dec.{leb, ltb, eqb}
+use lib.Dec.{eqb}
 use lib.ListN.{length, getD, List·getD-eq-default}
 use borrow.Author.Tests.{eq-eqb, ne-eqb, le-leb, lt-leb, lt-ltb, le-ltb}
 use Rattle.rules.specs.Base.{pick}
 use Rattle.rules.specs.Lines.{digits}
 use Rattle.marks.specs.Alike.{alike}
-use Rattle.marks.proofs.Alike.{alike-none, alike-first, alike-split, alike-same}
+use Rattle.marks.proofs.Alike.{alike-first, alike-split, alike-same}
 use Rattle.marks.proofs.Points.{getD-any}
 use Rattle.edges.specs.Edge.{indexed, ruled}
 

@@ -1,15 +1,13 @@
 -- What is left of the columns, row by row: beside a row and the gap under it stands `besideRow` of its numbers, and nothing is left below the last.
 use mathlib.Core.Path.{_≡_, refl, ap, sym, _∙_}
 use mathlib.Core.List.{List}
-use mathlib.Core.Bool.{Bool, true, _&&_}
-use Prim.Native.Nat.{ℕ, suc, _+_, _*_, _-_, _≤_, _<_}
-use native.Mathlib.Nat.{mul-le-mul-right, mul-comm}
+use mathlib.Core.Bool.{true, _&&_}
+use Prim.Native.Nat.{ℕ, suc, _+_, _-_, _≤_, _<_}
 use native.Mathlib.Numerals.{add-one}
 use native.Mathlib.Decide.{decLe}
 use native.Mathlib.Omega.{arith}
 use lib.ListN.{length, getD}
 use Rattle.rules.specs.Measures as M
-use Rattle.rules.specs.Lines.{digits}
 use Rattle.rules.specs.Levels.{View}
 use Rattle.rules.specs.Measures.{height, rowOffset, canvasHeight}
 use Rattle.rules.specs.Drawing.{boxes}

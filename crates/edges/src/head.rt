@@ -16,7 +16,7 @@ const CORNER: u32 = 0x250C;
 
 const HORIZONTAL: u32 = 0x2500;
 
-pub const VERTICAL: u32 = 0x2502;
+pub(crate) const VERTICAL: u32 = 0x2502;
 
 // Where column j ends: where the next one begins, the last with the canvas.
 fn column_end(xs: &[u32; 256], ncols: u32, j: u32, width: u32) -> u32
@@ -73,7 +73,7 @@ fn columns_same(
 }
 
 // Rows 0 to 2 are as drawn, with the axis at x = a.
-pub fn head_same(
+pub(crate) fn head_same(
     cells: &[u32],
     width: u32,
     cx: &[u32; 256],

@@ -9,10 +9,10 @@ ghost use Rattle.marks.specs.Alike.{alike};
 ghost use Rattle.edges.specs.Edge.{indexed, ruled};
 
 // No mark.
-pub const SPACE: u32 = 0x20;
+pub(crate) const SPACE: u32 = 0x20;
 
 // The cells from x = from on, before `to`, hold `mark`.
-pub fn run_same(cells: &[u32], base: usize, from: usize, to: usize, mark: u32) -> bool
+pub(crate) fn run_same(cells: &[u32], base: usize, from: usize, to: usize, mark: u32) -> bool
     requires { ⌜ base + to ≤ length (now cells) ⌝ }
     ensures { λ r. ⌜ r ≡ alike (λ x. getD (now (cells .entry)) (base + x) 0) (λ x. mark) from to ⌝ }
 {
@@ -50,7 +50,14 @@ fn index_same(cells: &[u32], base: usize, at: usize, n: u32) -> bool
 }
 
 // The cells from x = from on, before `to`, hold the digits of n from x = at on, and spaces.
-pub fn label_same(cells: &[u32], base: usize, from: usize, to: usize, at: usize, n: u32) -> bool
+pub(crate) fn label_same(
+    cells: &[u32],
+    base: usize,
+    from: usize,
+    to: usize,
+    at: usize,
+    n: u32,
+) -> bool
     requires { ⌜ (n < 256) × (from ≤ at) × (at + length (rule.digits n) ≤ to) × (base + to ≤ length (now cells)) ⌝ }
     ensures { λ r. ⌜ r ≡ alike (λ x. getD (now (cells .entry)) (base + x) 0) (indexed n at) from to ⌝ }
 {
@@ -63,7 +70,14 @@ pub fn label_same(cells: &[u32], base: usize, from: usize, to: usize, at: usize,
 }
 
 // The cell at x = a holds `mark`, and those after it, before `to`, hold `rest`.
-pub fn rest_same(cells: &[u32], base: usize, a: usize, mark: u32, rest: u32, to: usize) -> bool
+pub(crate) fn rest_same(
+    cells: &[u32],
+    base: usize,
+    a: usize,
+    mark: u32,
+    rest: u32,
+    to: usize,
+) -> bool
     requires { ⌜ (a < to) × (base + to ≤ length (now cells)) ⌝ }
     ensures { λ r. ⌜ r ≡ alike (λ x. getD (now (cells .entry)) (base + x) 0) (λ x. pick (eqb x a) mark rest) a to ⌝ }
 {
@@ -74,7 +88,14 @@ pub fn rest_same(cells: &[u32], base: usize, a: usize, mark: u32, rest: u32, to:
 }
 
 // The cells before x = a are spaces, the one there holds `mark`, and those after it, before `to`, hold `rest`.
-pub fn line_same(cells: &[u32], base: usize, a: usize, mark: u32, rest: u32, to: usize) -> bool
+pub(crate) fn line_same(
+    cells: &[u32],
+    base: usize,
+    a: usize,
+    mark: u32,
+    rest: u32,
+    to: usize,
+) -> bool
     requires { ⌜ (a < to) × (base + to ≤ length (now cells)) ⌝ }
     ensures { λ r. ⌜ r ≡ alike (λ x. getD (now (cells .entry)) (base + x) 0) (ruled (λ k. 32) a mark rest) 0 to ⌝ }
 {

@@ -99,7 +99,7 @@ fn row_same(
 }
 
 // What is left of the columns is as drawn, with the axis at x = a.
-pub fn sides_same(
+pub(crate) fn sides_same(
     cells: &[u32],
     width: u32,
     height: u32,

@@ -1,5 +1,5 @@
 -- Four pieces: row 0 before the columns and in them, row 1, row 2.
-use mathlib.Core.Path.{_≡_, refl, sym, _∙_}
+use mathlib.Core.Path.{refl}
 use Rattle.edges.proofs.Runs.{then-no, then-yes}
 use Rattle.edges.proofs.Heads.{heads}
 use borrow.Author.Needs.{needs}

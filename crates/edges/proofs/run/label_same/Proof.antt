@@ -1,5 +1,5 @@
 -- Three pieces: spaces, the digits, spaces.
-use mathlib.Core.Path.{_≡_, refl, sym, _∙_}
+use mathlib.Core.Path.{refl, _∙_}
 use Prim.Native.Nat.{_+_}
 use lib.ListN.{getD}
 use Rattle.edges.proofs.Runs.{then-no, then-yes, label}

@@ -1,5 +1,4 @@
 -- Two pieces: the spaces before the axis, and it with what is after it.
-use mathlib.Core.Path.{_≡_, sym, _∙_}
 use Prim.Native.Nat.{_+_}
 use lib.ListN.{getD}
 use Rattle.edges.proofs.Runs.{then-no, then-yes, axis}

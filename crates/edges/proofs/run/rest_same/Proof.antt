@@ -1,5 +1,5 @@
 -- One step of `alike` at the axis, and the run after it.
-use mathlib.Core.Path.{_≡_, sym, _∙_}
+use mathlib.Core.Path.{sym, _∙_}
 use Prim.Native.Nat.{_+_}
 use lib.ListN.{getD}
 use Rattle.edges.proofs.Runs.{rest-other, rest-same}

@@ -1,5 +1,4 @@
 -- Two pieces: the index before the axis, and the axis with the space after it.
-use mathlib.Core.Path.{_≡_, refl, sym, _∙_}
 use Prim.Native.Nat.{_+_, _-_}
 use lib.ListN.{length, getD}
 use Rattle.rules.specs.Lines.{digits}

@@ -1,6 +1,4 @@
 -- The plan's numbers say where its columns and rows are; then there are two pieces, rows 0 to 2 and what is left of the columns.
-use mathlib.Core.Path.{_≡_}
-use native.Mathlib.Omega.{arith}
 use lib.ListN.{length}
 use Rattle.rules.specs.Levels.{view}
 use Rattle.rules.specs.Measures.{d}
@@ -17,25 +15,19 @@ index-digits-requires : tie.Need-index-digits-requires
 index-digits-requires c κs =
     let s = c .before in
     let g = s .args in
-    rows-some (planSeen (g .cells .now) (g .width) (g .height)) (s .pre .2) (s .pre .3) (g .width) (g .height) (g .ncols) (g .nrows) (length (g .cells .now)) (g .cx .now) (g .xs .now) (g .cy .now) (g .ys .now) (s .pre .0) (s .pre .4)
+    rows-some (g .cells .now) (g .width) (g .height) (g .ncols) (g .nrows) (g .cx .now) (g .xs .now) (g .cy .now) (g .ys .now) (s .pre)
 
 wide-requires : tie.Need-wide-requires
 wide-requires c κs = search needs
 
 add-a : tie.Need-add-a
-add-a c =
-    let s = c .before .before .before in
-    let g = s .args in
-    let p = planSeen (g .cells .now) (g .width) (g .height) in
-    let k = ready p (s .pre .2) (s .pre .3) (g .width) (g .height) (g .ncols) (g .nrows) (length (g .cells .now)) (g .cx .now) (g .xs .now) (g .cy .now) (g .ys .now) (s .pre .0) (s .pre .4) _ _ (c .before .index-digits .ensures) (c .wide .ensures) in
-    record { fits = omega (arith, k .narrow) }
+add-a c = search needs
 
 head-same-requires : tie.Need-head-same-requires
 head-same-requires c κs =
     let s = c .before .before .before in
     let g = s .args in
-    let p = planSeen (g .cells .now) (g .width) (g .height) in
-    let k = ready p (s .pre .2) (s .pre .3) (g .width) (g .height) (g .ncols) (g .nrows) (length (g .cells .now)) (g .cx .now) (g .xs .now) (g .cy .now) (g .ys .now) (s .pre .0) (s .pre .4) _ _ (c .before .index-digits .ensures) (c .wide .ensures) in
+    let k = ready (g .cells .now) (g .width) (g .height) (g .ncols) (g .nrows) (g .cx .now) (g .xs .now) (g .cy .now) (g .ys .now) (s .pre) _ _ (c .before .index-digits .ensures) (c .wide .ensures) in
     (k .three-rows, k .narrow, k .room)
 
 sides-same-requires : tie.Need-sides-same-requires
@@ -43,8 +35,7 @@ sides-same-requires c κs =
     let w = c .before .before in
     let s = w .before .before .before in
     let g = s .args in
-    let p = planSeen (g .cells .now) (g .width) (g .height) in
-    let k = ready p (s .pre .2) (s .pre .3) (g .width) (g .height) (g .ncols) (g .nrows) (length (g .cells .now)) (g .cx .now) (g .xs .now) (g .cy .now) (g .ys .now) (s .pre .0) (s .pre .4) _ _ (w .before .index-digits .ensures) (w .wide .ensures) in
+    let k = ready (g .cells .now) (g .width) (g .height) (g .ncols) (g .nrows) (g .cx .now) (g .xs .now) (g .cy .now) (g .ys .now) (s .pre) _ _ (w .before .index-digits .ensures) (w .wide .ensures) in
     (s .pre .0, k .down)
 
 returns : tie.Need-returns
@@ -54,7 +45,7 @@ returns c =
     let s = w .before .before .before in
     let g = s .args in
     let p = planSeen (g .cells .now) (g .width) (g .height) in
-    let k = ready p (s .pre .2) (s .pre .3) (g .width) (g .height) (g .ncols) (g .nrows) (length (g .cells .now)) (g .cx .now) (g .xs .now) (g .cy .now) (g .ys .now) (s .pre .0) (s .pre .4) _ _ (w .before .index-digits .ensures) (w .wide .ensures) in
+    let k = ready (g .cells .now) (g .width) (g .height) (g .ncols) (g .nrows) (g .cx .now) (g .xs .now) (g .cy .now) (g .ys .now) (s .pre) _ _ (w .before .index-digits .ensures) (w .wide .ensures) in
     then-yes (by-cells (g .cells .now) (g .width) (g .height) _ (d (view p)) (markAt length boxes (view p)) (k .narrow) (k .high) (k .across .axis-at))
     (t .before .head-same .ensures (view p) (k .across)) (t .if1 .taken) (c .sides-same .ensures)
 
@@ -64,7 +55,7 @@ returns-2 c =
     let s = w .before .before .before in
     let g = s .args in
     let p = planSeen (g .cells .now) (g .width) (g .height) in
-    let k = ready p (s .pre .2) (s .pre .3) (g .width) (g .height) (g .ncols) (g .nrows) (length (g .cells .now)) (g .cx .now) (g .xs .now) (g .cy .now) (g .ys .now) (s .pre .0) (s .pre .4) _ _ (w .before .index-digits .ensures) (w .wide .ensures) in
+    let k = ready (g .cells .now) (g .width) (g .height) (g .ncols) (g .nrows) (g .cx .now) (g .xs .now) (g .cy .now) (g .ys .now) (s .pre) _ _ (w .before .index-digits .ensures) (w .wide .ensures) in
     then-no _ (by-cells (g .cells .now) (g .width) (g .height) _ (d (view p)) (markAt length boxes (view p)) (k .narrow) (k .high) (k .across .axis-at))
     (c .before .head-same .ensures (view p) (k .across)) (c .if1 .left)
 
