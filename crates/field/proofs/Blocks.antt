@@ -1,8 +1,8 @@
 -- A column of a band as rows: what is asked of its rows is what a spot has there.
-use mathlib.Core.Path.{_≡_, refl, sym, _∙_}
+use mathlib.Core.Path.{_≡_, refl}
 use mathlib.Core.List.{List}
 use mathlib.Core.Bool.{Bool, true, false, _&&_}
-use Prim.Native.Nat.{ℕ, suc, _+_, _*_, _≤_, _<_}
+use Prim.Native.Nat.{ℕ, _+_, _*_, _≤_, _<_}
 use native.Mathlib.Omega.{arith}
 use Rattle.marks.specs.Alike.{alike, alikeIn}
 use Rattle.marks.proofs.Alike.{in-split, in-one, in-same, alike-same}

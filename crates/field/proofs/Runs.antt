@@ -1,17 +1,17 @@
 -- A row compared part by part: what a run of one mark, a row of lines, a border and a line of text ask for.
 -- Each law splits the row where its marks change.
-use mathlib.Core.Path.{_≡_, refl, ap, sym, _∙_}
+use mathlib.Core.Path.{_≡_, refl, sym, _∙_}
 use mathlib.Core.List.{List}
 use mathlib.Core.Bool.{Bool, true, false, _&&_}
 use Prim.Native.Nat.{ℕ, suc, zero, _+_, _-_, _≤_, _<_}
 use native.Mathlib.Omega.{arith}
-use lib.Dec.{eqb, ltb}
+use lib.Dec.{eqb}
 use lib.ListN.{getD}
 use borrow.Author.Tests.{lt-ltb, le-ltb, eq-eqb, ne-eqb}
 use Rattle.rules.specs.Base.{pick, every}
 use Rattle.rules.proofs.Candidate.{from}
 use Rattle.rules.specs.Drawing.{boxes}
-use Rattle.marks.specs.Alike.{alike, alikeIn}
+use Rattle.marks.specs.Alike.{alike}
 use Rattle.marks.proofs.Alike.{alike-none, alike-first, alike-split, alike-one, alike-same, alike-if}
 use Rattle.field.specs.declared.shape.Wire.{Wire}
 use Rattle.field.specs.declared.shape.Edge.{Edge}
@@ -31,6 +31,28 @@ module _ (f g : ℕ → ℕ) where
 
   pub run-stop : (k e : ℕ) → k < e → (f k ≡ g k → ⊥) → alike f g k e ≡ false
   run-stop k e h s = rw (alike-first f g k e h, ne-eqb (f k) (g k) s)
+
+  -- four at once
+  pub run-four : (k : ℕ)
+      → alike f g k (k + 4)
+      ≡ (((eqb (f k) (g k) && eqb (f (k + 1)) (g (k + 1))) && eqb (f (k + 2)) (g (k + 2))) && eqb (f (k + 3)) (g (k + 3)))
+  run-four k =
+      rw (
+        alike-split f g k (k + 3) (k + 4) (omega arith) (omega arith),
+        alike-split f g k (k + 2) (k + 3) (omega arith) (omega arith),
+        alike-split f g k (k + 1) (k + 2) (omega arith) (omega arith),
+        alike-one f g k (k + 1) (omega arith),
+        alike-one f g (k + 1) (k + 2) (omega arith),
+        alike-one f g (k + 2) (k + 3) (omega arith),
+        alike-one f g (k + 3) (k + 4) (omega arith),
+      )
+
+  -- and eight
+  pub run-eight : {p q : Bool} (k e : ℕ) → 8 ≤ e - k → p ≡ alike f g k (k + 4) → q ≡ alike f g (k + 4) (k + 4 + 4)
+      → alike f g k e ≡ ((p && q) && alike f g (k + 8) e)
+  run-eight k e h s t =
+      let n : k + 4 + 4 ≡ k + 8 = omega arith in
+      alike-split f g k (k + 8) e (omega arith) (omega arith) ∙ rw (alike-split f g k (k + 4) (k + 8) (omega arith) (omega arith), s, t, n)
 
 -- the cells of a run are the marks of a row, which begins at n
 every-shift : (t : ℕ → Bool) (n a m : ℕ) → every t (from (n + a) m) ≡ every (λ x. t (n + x)) (from a m)

@@ -1,14 +1,15 @@
 -- What stands at a spot, row by row: the marks of its rows are those of the shapes.
-use mathlib.Core.Path.{_≡_, refl, ap, sym, _∙_}
+use mathlib.Core.Path.{_≡_, refl, sym, _∙_}
 use mathlib.Core.Bool.{Bool, true, false, _&&_, _||_}
-use Prim.Native.Nat.{ℕ, suc, zero, _+_, _-_, _≤_, _<_}
+use Prim.Native.Nat.{ℕ, suc, _+_, _≤_, _<_}
 use native.Mathlib.Omega.{arith}
 use native.Mathlib.Decide.{ℕ-discrete, decLe}
 use lib.Dec.{eqb, ltb, leb}
-use borrow.Author.Tests.{lt-ltb, le-ltb, eq-eqb, ne-eqb, le-leb, lt-leb}
+use borrow.Author.Tests.{lt-ltb, le-ltb, eq-eqb, ne-eqb, le-leb, lt-leb, eqb-true}
 use Rattle.rules.specs.Base.{pick}
-use Rattle.rules.specs.Drawing.{Marks, boxes}
-use Rattle.marks.specs.Joint.{Joint, bendMark, footMark, barMark, rootMark}
+use Rattle.rules.specs.Drawing.{boxes}
+use Rattle.rules.proofs.CharsBack.{both}
+use Rattle.marks.specs.Joint.{bendMark, footMark, barMark, rootMark}
 use Rattle.marks.specs.Spot.{Spot, ownMark, cellMark, spotMark}
 use Rattle.marks.proofs.Alike.{and-yes}
 use Rattle.field.specs.declared.shape.Wire.{Wire}
@@ -37,6 +38,16 @@ wire-is w l h before line next after x =
                 ]
           ]
     ]
+
+-- a row of lines whose marks are one
+pub level-mark : (w : Wire) (l x : ℕ) → (eqb (w .before) (w .line) && eqb (w .next) (w .line) && eqb (w .after) (w .line)) ≡ true
+    → wireMark w l x ≡ w .line
+level-mark w l x t =
+    let p = both (eqb (w .before) (w .line) && eqb (w .next) (w .line)) (eqb (w .after) (w .line)) t in
+    let q = both (eqb (w .before) (w .line)) (eqb (w .next) (w .line)) (p .0) in
+    sym
+    (wire-is w l (λ _. w .line) (λ x h. sym (eqb-true (w .before) (w .line) (q .0))) refl (sym (eqb-true (w .next) (w .line) (q .1)))
+    (λ x h. sym (eqb-true (w .after) (w .line) (p .1))) x)
 
 -- a border by its eight
 pub edge-is : (e : Edge) (X l R : ℕ) → X < l → l + 1 < R → (h : ℕ → ℕ) → ((x : ℕ) → x < X → h x ≡ 0x20) → h X ≡ e .left

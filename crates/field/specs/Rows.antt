@@ -1,7 +1,6 @@
 -- The marks of one row of a column, by where its line and the sides of its box are.
-use mathlib.Core.Bool.{_&&_, _||_}
 use Prim.Native.Nat.{ℕ, _+_}
-use lib.Dec.{leb, ltb, eqb}
+use lib.Dec.{ltb, eqb}
 use Rattle.rules.specs.Base.{pick}
 use Rattle.rules.specs.Drawing.{boxes}
 use Rattle.field.specs.declared.shape.Wire.{Wire}

@@ -1,12 +1,15 @@
 // Rows that only lines run through.
 ghost use mathlib.Core.Path.{_≡_};
+ghost use mathlib.Core.Bool.{_&&_};
 ghost use Prim.Native.Nat.{_+_, _*_, _≤_};
+ghost use lib.Dec.{eqb};
 ghost use lib.ListN.{length};
 ghost use Rattle.marks.specs.Alike.{alike, alikeIn};
 ghost use Rattle.field.specs.Fits.{markIn};
 ghost use Rattle.field.specs.Rows.{wireMark};
 ghost use Rattle.field.specs.Span.{Ordered, rowIn};
 use crate::run::run_same;
+use crate::run::runs_same;
 use crate::shape::Span;
 use crate::shape::Wire;
 
@@ -29,7 +32,7 @@ fn wire_same(cells: &[u32], base: usize, p: Span, w: Wire) -> bool
 }
 
 // The rows from y = from on, before `to`.
-pub fn wires_same(cells: &[u32], width: usize, p: Span, w: Wire, from: usize, to: usize) -> bool
+fn lines_same(cells: &[u32], width: usize, p: Span, w: Wire, from: usize, to: usize) -> bool
     requires { ⌜ Ordered p × (p .b ≤ width) × (to * width ≤ length (now cells)) ⌝ }
     ensures { λ r. ⌜ r ≡ alikeIn (markIn (now (cells .entry)) width) (λ x y. wireMark w (p .line) x) (p .a) (p .b) from to ⌝ }
 {
@@ -42,4 +45,22 @@ pub fn wires_same(cells: &[u32], width: usize, p: Span, w: Wire, from: usize, to
         }
     }
     true
+}
+
+// The four marks are one.
+fn level(w: Wire) -> bool
+    ensures { λ r. ⌜ r ≡ (eqb (w .before) (w .line) && eqb (w .next) (w .line) && eqb (w .after) (w .line)) ⌝ }
+{
+    (w.before == w.line) & (w.next == w.line) & (w.after == w.line)
+}
+
+// The rows from y = from on, before `to`; most are all one mark.
+pub fn wires_same(cells: &[u32], width: usize, p: Span, w: Wire, from: usize, to: usize) -> bool
+    requires { ⌜ Ordered p × (p .b ≤ width) × (to * width ≤ length (now cells)) ⌝ }
+    ensures { λ r. ⌜ r ≡ alikeIn (markIn (now (cells .entry)) width) (λ x y. wireMark w (p .line) x) (p .a) (p .b) from to ⌝ }
+{
+    if level(w) {
+        return runs_same(cells, width, p.a, p.b, w.line, from, to);
+    }
+    lines_same(cells, width, p, w, from, to)
 }

@@ -1,14 +1,12 @@
 -- A column is its box and the rows under it, or rows with no box.
 use Prim.Native.Nat.{_+_}
-use mathlib.Core.Path.{_≡_, refl, sym, _∙_}
-use mathlib.Core.Bool.{_&&_}
+use mathlib.Core.Path.{sym, _∙_}
 use native.Mathlib.Omega.{arith}
 use lib.ListN.{length}
 use Rattle.field.proofs.Down.{rows-within}
 use Rattle.marks.proofs.Alike.{in-split}
 use Rattle.field.specs.Fits.{markIn, spotIn}
 use Rattle.field.proofs.Blocks.{neither}
-use borrow.Author.Needs.{needs}
 use Rattle.field.proofs.block.block_same.Statement.{statement}
 use Rattle.field.proofs.block.block_same.Tie as tie
 

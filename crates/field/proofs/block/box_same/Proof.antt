@@ -1,7 +1,6 @@
 -- The rows of a box are the head, the top border, the lines and the bottom border, one after another; all lie in the cells.
 use Prim.Native.Nat.{_+_}
-use mathlib.Core.Path.{_≡_, refl, sym, _∙_}
-use mathlib.Core.Bool.{_&&_}
+use mathlib.Core.Path.{sym, _∙_}
 use native.Mathlib.Omega.{arith}
 use lib.ListN.{length}
 use Rattle.field.proofs.Down.{row-within, rows-within}

@@ -1,7 +1,6 @@
 -- The rows down to the bend, the bend and the rows below it, one after another; or only rows above the bend.
 use Prim.Native.Nat.{_+_}
-use mathlib.Core.Path.{_≡_, refl, sym, _∙_}
-use mathlib.Core.Bool.{_&&_}
+use mathlib.Core.Path.{sym, _∙_}
 use native.Mathlib.Omega.{arith}
 use lib.ListN.{length}
 use Rattle.field.proofs.Down.{rows-within}

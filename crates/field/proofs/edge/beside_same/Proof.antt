@@ -1,7 +1,6 @@
 -- The two runs of spaces as runs of the row.
 use Prim.Native.Nat.{_+_}
-use mathlib.Core.Path.{_≡_, sym, _∙_}
-use mathlib.Core.Bool.{_&&_}
+use mathlib.Core.Path.{_≡_}
 use native.Mathlib.Omega.{arith}
 use Rattle.field.proofs.Runs.{run-cells}
 use borrow.Author.Needs.{needs}

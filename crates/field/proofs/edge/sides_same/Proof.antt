@@ -1,6 +1,5 @@
 -- Each return is one case of the marks beside the text.
-use mathlib.Core.Path.{_≡_, sym, _∙_}
-use mathlib.Core.Bool.{_&&_}
+use mathlib.Core.Path.{sym, _∙_}
 use borrow.Author.Tests.{eq-eqb, ne-eqb}
 use Rattle.field.proofs.Runs.{text-cells}
 use borrow.Author.Needs.{needs}

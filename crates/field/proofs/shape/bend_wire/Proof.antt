@@ -1,3 +1,4 @@
+-- The test picks the row.
 use Rattle.rules.specs.Base.{pick}
 use borrow.Author.Needs.{needs}
 use Rattle.field.proofs.shape.bend_wire.Statement.{statement}

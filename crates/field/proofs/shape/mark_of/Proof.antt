@@ -1,5 +1,5 @@
+-- The test picks the mark.
 use Rattle.rules.specs.Base.{pick}
-use borrow.Author.Needs.{needs}
 use Rattle.field.proofs.shape.mark_of.Statement.{statement}
 use Rattle.field.proofs.shape.mark_of.Tie as tie
 
