@@ -3,7 +3,6 @@ ghost use lib.ListN.{length};
 ghost use Rattle.rules.specs.Drawing.{boxes};
 ghost use Rattle.rules.specs.Reader.{Reads};
 use crate::look::look;
-use crate::numbers::number;
 use rules::Reading;
 
 // Reads a picture, by way of the canvas: its plan into the table and the titles.
@@ -13,7 +12,7 @@ pub fn read(picture: &[u8], canvas: &mut [u32], table: &mut [u32], titles: &mut 
 {
     let p = lay::start(picture, canvas);
     let answer = p.answer;
-    if 0 < number(answer) {
+    if 0 < rules::reading_number(answer) {
         return answer;
     }
     let lines = p.lines;

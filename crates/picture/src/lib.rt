@@ -2,9 +2,6 @@
 mod entry;
 mod give;
 mod look;
-mod numbers;
 mod tell;
 
 pub use entry::read;
-pub use numbers::number;
-pub use numbers::second;

@@ -9,8 +9,8 @@ use Rattle.picture.proofs.entry.read.Tie as tie
 start-requires : tie.Need-start-requires
 start-requires c κs = search needs
 
-number-requires : tie.Need-number-requires
-number-requires c κs = search needs
+reading-number-requires : tie.Need-reading-number-requires
+reading-number-requires c κs = search needs
 
 same-length : tie.Need-same-length
 same-length c = search needs
@@ -20,7 +20,7 @@ returns c =
     let s = c .before .before .before .before .before .before .before .before .before .before in
     let a = s .args in
     let t = c .before .before .before .before .start in
-    stops (a .picture .now) (a .canvas .now) (a .table .now) (a .titles .now) (t .last .1 .0) (t .result .answer) (t .result .lines) (t .result .width) (t .ensures) (omega (arith, c .before .number .ensures, c .if1 .taken))
+    stops (a .picture .now) (a .canvas .now) (a .table .now) (a .titles .now) (t .last .1 .0) (t .result .answer) (t .result .lines) (t .result .width) (t .ensures) (omega (arith, c .before .reading-number .ensures, c .if1 .taken))
 
 same-length-2 : tie.Need-same-length-2
 same-length-2 c = search needs
@@ -30,7 +30,7 @@ returns-2 c =
     let s = c .before .before .before .before .before .before .before .before .before .before .before in
     let a = s .args in
     let t = c .before .before .before .before .before .start in
-    let h = passes (a .picture .now) (a .canvas .now) (a .table .now) (a .titles .now) (t .last .1 .0) (t .result .answer) (t .result .lines) (t .result .width) (t .ensures) (omega (arith, c .before .before .number .ensures, c .before .if1 .left)) in
+    let h = passes (a .picture .now) (a .canvas .now) (a .table .now) (a .titles .now) (t .last .1 .0) (t .result .answer) (t .result .lines) (t .result .width) (t .ensures) (omega (arith, c .before .before .reading-number .ensures, c .before .if1 .left)) in
     no-width (a .picture .now) (a .canvas .now) (a .table .now) (a .titles .now) (t .last .1 .0) (t .result .answer) (t .result .lines) (t .result .width) (t .ensures) h (c .if2 .taken)
 
 spaced-requires : tie.Need-spaced-requires
@@ -44,7 +44,7 @@ returns-3 c =
     let s = c .before .before .before .before .before .before .before .before .before .before .before .before .before in
     let a = s .args in
     let t = c .before .before .before .before .before .before .before .start in
-    let h = passes (a .picture .now) (a .canvas .now) (a .table .now) (a .titles .now) (t .last .1 .0) (t .result .answer) (t .result .lines) (t .result .width) (t .ensures) (omega (arith, c .before .before .before .before .number .ensures, c .before .before .before .if1 .left)) in
+    let h = passes (a .picture .now) (a .canvas .now) (a .table .now) (a .titles .now) (t .last .1 .0) (t .result .answer) (t .result .lines) (t .result .width) (t .ensures) (omega (arith, c .before .before .before .before .reading-number .ensures, c .before .before .before .if1 .left)) in
     a-space (a .picture .now) (a .canvas .now) (a .table .now) (a .titles .now) (t .last .1 .0) (t .result .answer) (t .result .lines) (t .result .width) (t .ensures) h (sym (c .before .spaced .ensures) ∙ c .if3 .taken)
 
 cast-look : tie.Need-cast-look
@@ -52,7 +52,7 @@ cast-look c =
     let s = c .before .before .before .before .before .before .before .before .before .before .before .before .before .before in
     let a = s .args in
     let t = c .before .before .before .before .before .before .before .before .start in
-    let h = passes (a .picture .now) (a .canvas .now) (a .table .now) (a .titles .now) (t .last .1 .0) (t .result .answer) (t .result .lines) (t .result .width) (t .ensures) (omega (arith, c .before .before .before .before .before .number .ensures, c .before .before .before .before .if1 .left)) in
+    let h = passes (a .picture .now) (a .canvas .now) (a .table .now) (a .titles .now) (t .last .1 .0) (t .result .answer) (t .result .lines) (t .result .width) (t .ensures) (omega (arith, c .before .before .before .before .before .reading-number .ensures, c .before .before .before .before .if1 .left)) in
     let q = picture-there (a .picture .now) (a .canvas .now) (a .table .now) (a .titles .now) (t .last .1 .0) (t .result .answer) (t .result .lines) (t .result .width) (t .ensures) h (omega (arith, c .before .before .before .if2 .left)) in
     record { fits = omega (arith, q .wide) }
 
@@ -61,7 +61,7 @@ cast-look-2 c =
     let s = c .before .before .before .before .before .before .before .before .before .before .before .before .before .before in
     let a = s .args in
     let t = c .before .before .before .before .before .before .before .before .start in
-    let h = passes (a .picture .now) (a .canvas .now) (a .table .now) (a .titles .now) (t .last .1 .0) (t .result .answer) (t .result .lines) (t .result .width) (t .ensures) (omega (arith, c .before .before .before .before .before .number .ensures, c .before .before .before .before .if1 .left)) in
+    let h = passes (a .picture .now) (a .canvas .now) (a .table .now) (a .titles .now) (t .last .1 .0) (t .result .answer) (t .result .lines) (t .result .width) (t .ensures) (omega (arith, c .before .before .before .before .before .reading-number .ensures, c .before .before .before .before .if1 .left)) in
     let q = picture-there (a .picture .now) (a .canvas .now) (a .table .now) (a .titles .now) (t .last .1 .0) (t .result .answer) (t .result .lines) (t .result .width) (t .ensures) h (omega (arith, c .before .before .before .if2 .left)) in
     record { fits = omega (arith, q .high) }
 
@@ -70,7 +70,7 @@ look-requires c κs =
     let s = c .before .before .before .before .before .before .before .before .before .before .before .before .before .before .before .before in
     let a = s .args in
     let t = c .before .before .before .before .before .before .before .before .before .before .start in
-    let h = passes (a .picture .now) (a .canvas .now) (a .table .now) (a .titles .now) (t .last .1 .0) (t .result .answer) (t .result .lines) (t .result .width) (t .ensures) (omega (arith, c .before .before .before .before .before .before .before .number .ensures, c .before .before .before .before .before .before .if1 .left)) in
+    let h = passes (a .picture .now) (a .canvas .now) (a .table .now) (a .titles .now) (t .last .1 .0) (t .result .answer) (t .result .lines) (t .result .width) (t .ensures) (omega (arith, c .before .before .before .before .before .before .before .reading-number .ensures, c .before .before .before .before .before .before .if1 .left)) in
     picture-there (a .picture .now) (a .canvas .now) (a .table .now) (a .titles .now) (t .last .1 .0) (t .result .answer) (t .result .lines) (t .result .width) (t .ensures) h (omega (arith, c .before .before .before .before .before .if2 .left))
 
 same-length-4 : tie.Need-same-length-4
@@ -87,7 +87,7 @@ returns-4 c =
     let s = c .before .before .before .before .before .before .before .before .before .before .before .before .before .before .before .before .before .before .before .before .before in
     let a = s .args in
     let t = c .before .before .before .before .before .before .before .before .before .before .before .before .before .before .before .start in
-    let h = passes (a .picture .now) (a .canvas .now) (a .table .now) (a .titles .now) (t .last .1 .0) (t .result .answer) (t .result .lines) (t .result .width) (t .ensures) (omega (arith, c .before .before .before .before .before .before .before .before .before .before .before .before .number .ensures, c .before .before .before .before .before .before .before .before .before .before .before .if1 .left)) in
+    let h = passes (a .picture .now) (a .canvas .now) (a .table .now) (a .titles .now) (t .last .1 .0) (t .result .answer) (t .result .lines) (t .result .width) (t .ensures) (omega (arith, c .before .before .before .before .before .before .before .before .before .before .before .before .reading-number .ensures, c .before .before .before .before .before .before .before .before .before .before .before .if1 .left)) in
     let l = c .before .before .before .before .look in
     answered-so (a .picture .now) (a .canvas .now) (a .table .now) (a .titles .now) (t .last .1 .0) (t .result .answer) (t .result .lines) (t .result .width) (t .ensures) h (l .result) (l .last .1 .1 .1 .0) (l .last .1 .1 .1 .1 .0) (sym (c .before .before .before .before .before .before .before .before .before .spaced .ensures) ∙ c .before .before .before .before .before .before .before .before .if3 .left) (l .ensures)
 
@@ -96,7 +96,7 @@ read-spec =
     tie.close
     (tie.spec
     start-requires
-    number-requires
+    reading-number-requires
     same-length
     returns
     same-length-2
