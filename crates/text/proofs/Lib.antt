@@ -1,4 +1,4 @@
 pub mod Ones
 pub mod Wanted
 pub mod FirstBytes
-pub mod Plain
+pub mod Ascii

@@ -16,5 +16,6 @@ pub use number::longer;
 pub use number::wide;
 pub use utf8::Point;
 pub use utf8::decode;
+pub use utf8::plain;
 pub use utf8::points_in;
 pub use utf8::valid;

@@ -133,6 +133,9 @@ fn step(w: Wanted, b: u8) -> Wanted
     ensures { λ r. ⌜ ((bs : List ℕ) → continues (wanted (w .bytes) (w .low) (w .high)) (b ∷ bs) ≡ continues (wanted (r .bytes) (r .low) (r .high)) bs) ⌝ }
 {
     if w.bytes == 0 {
+        if b < 0x80 {
+            return w;
+        }
         return after(b);
     }
     if b < w.low {
@@ -171,6 +174,13 @@ fn highest(s: &[u8]) -> u8
     most
 }
 
+// No byte is above 7F, if it says so.
+pub fn plain(s: &[u8]) -> bool
+    ensures { λ r. ⌜ (r ≡ true → (k : ℕ) → k < length (now (s .entry)) → getD (now (s .entry)) k 0 < 0x80) ⌝ }
+{
+    highest(s) < 0x80
+}
+
 // All of s is valid UTF-8, byte by byte.
 fn steps(s: &[u8]) -> bool
     ensures { λ r. ⌜ r ≡ rule.valid (now (s .entry)) ⌝ }
@@ -192,7 +202,7 @@ fn steps(s: &[u8]) -> bool
 pub fn valid(s: &[u8]) -> bool
     ensures { λ r. ⌜ r ≡ rule.valid (now (s .entry)) ⌝ }
 {
-    if highest(s) < 0x80 {
+    if plain(s) {
         return true;
     }
     steps(s)

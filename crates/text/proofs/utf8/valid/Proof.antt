@@ -1,15 +1,15 @@
 -- No byte above 7F settles it; else it is settled byte by byte.
 use mathlib.Core.Path.{sym}
-use Rattle.text.proofs.Plain.{plain-valid}
+use Rattle.text.proofs.Ascii.{plain-valid}
 use borrow.Author.Needs.{needs}
 use Rattle.text.proofs.utf8.valid.Statement.{statement}
 use Rattle.text.proofs.utf8.valid.Tie as tie
 
-highest-requires : tie.Need-highest-requires
-highest-requires c κs = search needs
+plain-requires : tie.Need-plain-requires
+plain-requires c κs = search needs
 
 returns : tie.Need-returns
-returns c = sym (plain-valid (c .before .before .before .args .s .now) (c .before .highest .result) (search needs) (c .before .highest .ensures))
+returns c = sym (plain-valid (c .before .before .before .args .s .now) (c .before .plain .ensures (c .if1 .taken)))
 
 steps-requires : tie.Need-steps-requires
 steps-requires c κs = search needs
@@ -18,4 +18,4 @@ returns-2 : tie.Need-returns-2
 returns-2 c = search needs
 
 pub valid-spec : {M : Type 1} → statement M
-valid-spec = tie.close (tie.spec highest-requires returns steps-requires returns-2)
+valid-spec = tie.close (tie.spec plain-requires returns steps-requires returns-2)
