@@ -209,6 +209,7 @@ def widened(rng, lines):
 
 def hurt(rng, picture):
     """A drawing with one fault: a byte or a mark changed, a line cut, left out, doubled or swapped, a space at an end, a box widened."""
+    if not rules.valid(picture) or not picture: return picture
     lines = picture.decode()[:-1].split('\n')
     k, j = rng.randrange(len(lines)), rng.randrange(len(lines))
     kind = rng.randrange(13)

@@ -1,8 +1,8 @@
 // One row of the canvas: what lies beyond its end is dropped.
 ghost use mathlib.Core.Path.{_≡_};
 ghost use mathlib.Core.Bool.{true};
-ghost use Prim.Native.Nat.{_+_, _-_, _≤_, _<_, min, max};
-ghost use lib.ListN.{length, set, replicate};
+ghost use Prim.Native.Nat.{ℕ, _+_, _-_, _≤_, _<_, min, max};
+ghost use lib.ListN.{length, getD, set, replicate};
 ghost use lib.Seq.{sets};
 ghost use Rattle.rules.specs.Utf8.{valid, points};
 ghost use Rattle.rules.specs.Lines.{digits};
@@ -57,6 +57,31 @@ fn letters_fitting(row: &mut [u32], x: usize, line: &[u8])
     }
 }
 
+// The same of bytes up to 7F: each is its own code point. (The compiler does many at a time.)
+fn letters_plain(row: &mut [u32], x: usize, line: &[u8])
+    requires { ⌜ ((k : ℕ) → k < length (now line) → getD (now line) k 0 < 0x80) ⌝ }
+    requires { ⌜ x + length (now line) ≤ length (now row) ⌝ }
+    ensures { λ _. ⌜ now (row .exit) ≡ sets (now (row .entry)) x (points (now (line .entry))) ⌝ }
+{
+    let mut i = 0;
+    while i < line.len() {
+        row[x + i] = mark_of(line[i]);
+        i += 1;
+    }
+}
+
+// Puts the code points of a valid line from x on, where all have room.
+fn letters_within(row: &mut [u32], x: usize, line: &[u8])
+    requires { ⌜ (valid (now line) ≡ true) × (x + length (now line) ≤ length (now row)) ⌝ }
+    ensures { λ _. ⌜ now (row .exit) ≡ sets (now (row .entry)) x (points (now (line .entry))) ⌝ }
+{
+    if text::plain(line) {
+        letters_plain(row, x, line);
+        return;
+    }
+    letters_fitting(row, x, line);
+}
+
 // The same, where some may lie beyond the end.
 fn letters_clipped(row: &mut [u32], x: usize, line: &[u8])
     requires { ⌜ valid (now line) ≡ true ⌝ }
@@ -82,7 +107,7 @@ pub fn letters(row: &mut [u32], x: usize, line: &[u8])
 {
     if x <= row.len() {
         if line.len() <= row.len() - x {
-            letters_fitting(row, x, line);
+            letters_within(row, x, line);
             return;
         }
     }

@@ -43,6 +43,13 @@ trim-eight row e p q h ep eq sp sq =
     let m : e - 8 + 4 ≡ e - 4 = omega arith in
     rw k at (trim-four row (e - 4) (rw eq at sq)) ∙ rw m at (trim-four row (e - 8) (rw ep at sp))
 
+pub trim-sixteen : (row : List ℕ) (e : ℕ) (a b c d : Four) → 16 ≤ e → a ≡ fourAt row (e - 16) → b ≡ fourAt row (e - 12) → c ≡ fourAt row (e - 8) → d ≡ fourAt row (e - 4)
+    → Same a 0x20 → Same b 0x20 → Same c 0x20 → Same d 0x20 → endOf (rowOf row) 0 e ≡ endOf (rowOf row) 0 (e - 16)
+trim-sixteen row e a b c d h ea eb ec ed sa sb sc sd =
+    let k : e - 8 - 8 ≡ e - 16 = omega arith in
+    let l : e - 8 - 4 ≡ e - 12 = omega arith in
+    trim-eight row e c d (omega arith) ec ed sc sd ∙ rw k at (trim-eight row (e - 8) a b (omega arith) (rw k ea) (rw l eb) sa sb)
+
 -- a byte more from each of three numbers on
 pub more-bytes : (v p q r : ℕ) → Over v 0x80 p → Over v 0x800 q → Over v 0x10000 r → p + q + r + 1 ≡ length (utf8 v)
 more-bytes v p q r o t u =

@@ -74,20 +74,45 @@ fn last(row: &[u32], from: usize) -> usize
     0
 }
 
+// A row's end once spaces are taken from it, sixteen at a time.
+fn sixteens(row: &[u32]) -> usize
+    ensures { λ r. ⌜ (r ≤ length (now (row .entry))) × (endIn (now (row .entry)) ≡ endOf (rowOf (now (row .entry))) 0 r) ⌝ }
+{
+    let mut end = row.len();
+    while 16 <= end {
+        let a = four_at(row, end - 16);
+        let b = four_at(row, end - 12);
+        let c = four_at(row, end - 8);
+        let d = four_at(row, end - 4);
+        if !all(same(a, 0x20), same(b, 0x20), same(c, 0x20), same(d, 0x20)) {
+            return end;
+        }
+        end -= 16;
+    }
+    end
+}
+
+// The same end, or eight less if there are eight spaces before it.
+fn eight(row: &[u32], from: usize) -> usize
+    requires { ⌜ from ≤ length (now row) ⌝ }
+    ensures { λ r. ⌜ (r ≤ from) × (endOf (rowOf (now (row .entry))) 0 from ≡ endOf (rowOf (now (row .entry))) 0 r) ⌝ }
+{
+    if from < 8 {
+        return from;
+    }
+    let p = four_at(row, from - 8);
+    let q = four_at(row, from - 4);
+    if all(same(p, 0x20), same(q, 0x20), true, true) {
+        return from - 8;
+    }
+    from
+}
+
 // The length of a row without the spaces at its end.
 pub fn trimmed(row: &[u32]) -> usize
     ensures { λ r. ⌜ r ≡ endIn (now (row .entry)) ⌝ }
 {
-    let mut end = row.len();
-    while 8 <= end {
-        let p = four_at(row, end - 8);
-        let q = four_at(row, end - 4);
-        if !all(same(p, 0x20), same(q, 0x20), true, true) {
-            return last(row, end);
-        }
-        end -= 8;
-    }
-    last(row, end)
+    last(row, eight(row, sixteens(row)))
 }
 
 // 1 from w on, else 0.

@@ -3,3 +3,4 @@ pub mod Wanted
 pub mod FirstBytes
 pub mod Within
 pub mod Passed
+pub mod Ascii

@@ -3,13 +3,13 @@
 use mathlib.Core.Path.{_≡_, refl, ap, sym, _∙_}
 use mathlib.Core.List.{List, [], _∷_}
 use mathlib.Core.Bool.{Bool, false}
-use Prim.Native.Nat.{ℕ, zero, suc, _-_, _≤_}
+use Prim.Native.Nat.{ℕ, zero, suc, _-_, _≤_, _<_}
 use native.Mathlib.Decide.{decLe}
 use native.Mathlib.Omega.{arith}
 use lib.Dec.{eqb}
 use borrow.Author.Tests.{ne-eqb}
 use Rattle.rules.specs.Utf8.{span, tail, never, following, continues}
-use Rattle.rules.proofs.Chars.{span-in, span-above, go-on}
+use Rattle.rules.proofs.Chars.{span-in, span-above, go-on, following-00}
 use Rattle.rules.proofs.CharsBack.{span-below}
 use Rattle.rules.proofs.Scalars.{stopped}
 use Rattle.text.specs.Wanted.{tails, wanted}
@@ -56,6 +56,11 @@ failed (suc n) low high b bs z e = stopped (span low high) (tails n) b bs e
 pub begun : (n low high b : ℕ) (bs : List ℕ) → n ≡ 0 → continues (wanted n low high) (b ∷ bs) ≡ continues (following b) bs
 unfolding wanted continues
 begun n low high b bs e = rw e
+
+-- and a byte up to 7F is one by itself
+pub alone : (n low high b : ℕ) (bs : List ℕ) → n ≡ 0 → b < 0x80 → continues (wanted n low high) (b ∷ bs) ≡ continues (wanted n low high) bs
+unfolding wanted
+alone n low high b bs e h = begun n low high b bs e ∙ ap (λ (ts : List (ℕ → Bool)). continues ts bs) (following-00 b (omega arith)) ∙ rw e
 
 -- and the bytes may end there only
 pub ended : (n low high : ℕ) → continues (wanted n low high) [] ≡ eqb n 0

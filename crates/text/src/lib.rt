@@ -18,5 +18,6 @@ pub use number::wide;
 pub use run::run_within;
 pub use utf8::Point;
 pub use utf8::decode;
+pub use utf8::plain;
 pub use utf8::points_in;
 pub use utf8::valid;

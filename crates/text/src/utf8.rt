@@ -2,7 +2,7 @@
 ghost use mathlib.Core.Path.{_≡_};
 ghost use mathlib.Core.Bool.{true, false};
 ghost use mathlib.Core.List.{List, _∷_};
-ghost use Prim.Native.Nat.{ℕ, _+_, _%_, _<_, _≤_};
+ghost use Prim.Native.Nat.{ℕ, _+_, _%_, _<_, _≤_, max};
 ghost use lib.ListN.{length, getD, drop};
 ghost use Rattle.rules.specs.Utf8.{following, continues, points, more};
 ghost use Rattle.rules.specs.Utf8 as rule;
@@ -136,6 +136,9 @@ fn step(w: Wanted, b: u8) -> Wanted
     ensures { λ r. ⌜ ((bs : List ℕ) → continues (wanted (w .bytes) (w .low) (w .high)) (b ∷ bs) ≡ continues (wanted (r .bytes) (r .low) (r .high)) bs) ⌝ }
 {
     if w.bytes == 0 {
+        if b < 0x80 {
+            return w;
+        }
         return after(b);
     }
     if b < w.low {
@@ -196,6 +199,36 @@ fn pass(s: &[u8], from: usize) -> usize
         at = run_within(s, to, 0, 0x7F);
     }
     at
+}
+
+// The greater of two bytes.
+fn higher(a: u8, b: u8) -> u8
+    ensures { λ r. ⌜ r ≡ max a b ⌝ }
+{
+    if a < b {
+        return b;
+    }
+    a
+}
+
+// No byte is greater. (A loop without a branch, which the compiler does many bytes at a time.)
+fn highest(s: &[u8]) -> u8
+    ensures { λ r. ⌜ ((k : ℕ) → k < length (now (s .entry)) → getD (now (s .entry)) k 0 ≤ r) ⌝ }
+{
+    let mut most: u8 = 0;
+    let mut at = 0;
+    while at < s.len() {
+        most = higher(most, s[at]);
+        at += 1;
+    }
+    most
+}
+
+// No byte is above 7F, if it says so.
+pub fn plain(s: &[u8]) -> bool
+    ensures { λ r. ⌜ (r ≡ true → (k : ℕ) → k < length (now (s .entry)) → getD (now (s .entry)) k 0 < 0x80) ⌝ }
+{
+    highest(s) < 0x80
 }
 
 // The place to go on from where w is wanted: past a run, if nothing is.
