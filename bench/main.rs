@@ -165,7 +165,8 @@ fn plans() -> Vec<(&'static str, Pairs)> {
         while line.len() < 139 {
             line.push_str(&format!(" c{}", line.len() * 7 + k));
         }
-        line.truncate(139);
+        line.truncate(138);
+        line.push(';'); // no line ends in a space, so that the plan can be read back
         into.push((depth, format!("SELECT {k}\n{line}")));
         if depth < 7 {
             below(depth + 1, into);
@@ -240,7 +241,13 @@ fn table(title: &str, dot: bool, rounds: usize, lend: fn(&mut Lent, usize, usize
             best / if dot { expected.len() } else { cells } as f64,
         );
     }
-    println!("\nreading back                cells    bytes   draw ns  read ns  read/draw");
+}
+
+// Reading back, beside the drawing of the same plan.
+fn readings(rounds: usize) {
+    println!("\nReading back, beside drawing with 5 bytes of output lent for each cell:\n");
+    println!("| plan | cells | bytes | drawing, ns | reading, ns | reading / drawing | middle round | ns a cell |");
+    println!("|---|---|---|---|---|---|---|---|");
     for (name, pairs) in plans() {
         let text = theirs(&grow(&pairs, &mut 0), false).into_bytes();
         let mut lent = Lent::new(&pairs);
@@ -259,8 +266,15 @@ fn table(title: &str, dot: bool, rounds: usize, lend: fn(&mut Lent, usize, usize
             rounds,
         );
         println!(
-            "{:24} {:8} {:8} {:9.0} {:8.0} {:9.2}   (middle rounds: {:.2})",
-            name, cells, back.picture.len(), times[0].0, times[1].0, times[1].0 / times[0].0, times[1].1 / times[0].1,
+            "| {} | {} | {} | {:.0} | {:.0} | {:.2} | {:.2} | {:.2} |",
+            name,
+            cells,
+            back.picture.len(),
+            times[0].0,
+            times[1].0,
+            times[1].0 / times[0].0,
+            times[1].1 / times[0].1,
+            times[1].0 / cells as f64,
         );
     }
 }
@@ -284,4 +298,5 @@ fn main() {
     table("Dot, with just the bytes needed lent (they are always counted first):", true, rounds, |lent, _, bytes| {
         lent.out = vec![0; bytes];
     });
+    readings(rounds);
 }
