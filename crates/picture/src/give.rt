@@ -53,7 +53,7 @@ fn give_titles(
 }
 
 // Writes the plan that was found, or answers how much room it asks for.
-pub fn deliver(
+pub(crate) fn deliver(
     cells: &[u32],
     width: u32,
     height: u32,

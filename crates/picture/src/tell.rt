@@ -4,7 +4,7 @@ use crate::give::deliver;
 use rules::Reading;
 
 // Delivers the plan that was gathered, if the picture is its drawing.
-pub fn tell(
+pub(crate) fn tell(
     cells: &[u32],
     width: u32,
     height: u32,
