@@ -16,6 +16,7 @@ use Rattle.rules.proofs.FirstChar.{CharHere}
 use Rattle.rules.proofs.Lists.{sets-append}
 use Rattle.text.specs.Within.{Within}
 use Rattle.lay.specs.Spaced.{spacedAfter}
+use Rattle.lay.specs.Left.{Left}
 use Rattle.lay.proofs.Counts.{line-same}
 
 module _ (s : List ℕ) where
@@ -61,40 +62,33 @@ module _ (s : List ℕ) where
   next-byte a zero h k = absurd (omega arith)
   next-byte a (suc n) h k = let e : suc n - 1 ≡ n = omega arith in rw (e, add-one, drop-cons s a 0 h)
 
--- ---- a line being written to a row: `at` bytes of it are read, and k cells written
-pub record Left (old row line : List ℕ) (at k : ℕ) : Type 0 where
-  pub here : at ≤ length line
-  pub rest : valid (drop at line) ≡ true
-  pub room : k + length (points (drop at line)) ≤ length row
-  pub long : length row ≡ length old
-  pub same : sets old 0 (points line) ≡ sets row k (points (drop at line))
-
-module _ (old row line : List ℕ) (at k : ℕ) (f : Left old row line at k) where
+-- ---- a line being written to a row
+module _ {all : List ℕ} {n : ℕ} (row line : List ℕ) (at k : ℕ) (f : Left all n row line at k) where
   -- a run of bytes below 80 is copied
   pub left-run : (to : ℕ) (new : List ℕ) → at ≤ to → to ≤ length line → Within line 0 0x7F at to → new ≡ sets row k (take (to - at) (drop at line))
-      → Left old new line to (k + (to - at))
+      → Left all n new line to (k + (to - at))
   left-run to new h l w e =
       let z : at + (to - at) ≡ to = omega arith in
       let p = rw z at (low-points line at (to - at) (omega arith) (rw z w)) in
-      let n : length (take (to - at) (drop at line)) ≡ to - at = length-take-le (to - at) (drop at line) (omega (arith, length-drop at line)) in
+      let z′ : length (take (to - at) (drop at line)) ≡ to - at = length-take-le (to - at) (drop at line) (omega (arith, length-drop at line)) in
       record {
         here = l;
         rest = sym (rw z at (low-valid line at (to - at) (omega arith) (rw z w))) ∙ f .rest;
         room = omega (arith, f .room, ap length p, length-append (take (to - at) (drop at line)) (points (drop to line)), ap length e, length-sets row k (take (to - at) (drop at line)));
         long = ap length e ∙ length-sets row k (take (to - at) (drop at line)) ∙ f .long;
-        same = f .same ∙ ap (sets row k) p ∙ sets-append row k (take (to - at) (drop at line)) (points (drop to line)) ∙ rw (n, e);
+        same = f .same ∙ ap (sets row k) p ∙ sets-append row k (take (to - at) (drop at line)) (points (drop to line)) ∙ rw (z′, e);
       }
 
   pub run-fits : (to : ℕ) → at ≤ to → to ≤ length line → Within line 0 0x7F at to → k + (to - at) ≤ length row
   run-fits to h l w =
       let z : at + (to - at) ≡ to = omega arith in
       let p = rw z at (low-points line at (to - at) (omega arith) (rw z w)) in
-      let n : length (take (to - at) (drop at line)) ≡ to - at = length-take-le (to - at) (drop at line) (omega (arith, length-drop at line)) in
+      let z′ : length (take (to - at) (drop at line)) ≡ to - at = length-take-le (to - at) (drop at line) (omega (arith, length-drop at line)) in
       omega (arith, f .room, ap length p, length-append (take (to - at) (drop at line)) (points (drop to line)))
 
   -- one code point is written
-  pub left-char : (v n : ℕ) → CharHere line at v n → Left old (set row k v) line (at + n) (k + 1)
-  left-char v n c = record {
+  pub left-char : (v m : ℕ) → CharHere line at v m → Left all n (set row k v) line (at + m) (k + 1)
+  left-char v m c = record {
     here = c .fits;
     rest = c .rest;
     room = omega (arith, f .room, ap length (c .next), length-set row k v);
@@ -106,6 +100,11 @@ module _ (old row line : List ℕ) (at k : ℕ) (f : Left old row line at k) whe
   char-fits v n c = omega (arith, f .room, ap length (c .next))
 
   -- nothing is left
-  pub left-none : length line ≤ at → row ≡ sets old 0 (points line)
+  pub left-none : length line ≤ at → row ≡ all
   unfolding points
   left-none h = sym (f .same ∙ ap (λ (l : List ℕ). sets row k (points l)) (drop-of-length-le line {i = at} h))
+
+-- a part of it that another has written
+pub left-on : {all : List ℕ} {n : ℕ} (row line : List ℕ) (at k : ℕ) → Left all n row line at k → {row′ : List ℕ} {at′ k′ : ℕ}
+    → Left (sets row k (points (drop at line))) (length row) row′ line at′ k′ → Left all n row′ line at′ k′
+left-on row line at k f g = record { here = g .here; rest = g .rest; room = g .room; long = g .long ∙ f .long; same = f .same ∙ g .same }

@@ -1,3 +1,4 @@
 pub mod Rows
 pub mod Spaced
 pub mod Started
+pub mod Left

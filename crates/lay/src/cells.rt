@@ -1,7 +1,7 @@
 // A picture's cells: the code points of each line, and spaces up to the longest.
 ghost use mathlib.Core.Path.{_≡_};
 ghost use mathlib.Core.Bool.{true};
-ghost use Prim.Native.Nat.{_+_, _-_, _≤_};
+ghost use Prim.Native.Nat.{_+_, _-_, _≤_, _<_};
 ghost use lib.ListN.{length, take, drop};
 ghost use lib.Seq.{sets};
 ghost use Rattle.rules.specs.Base.{greatest, laid};
@@ -9,6 +9,7 @@ ghost use Rattle.rules.specs.Utf8.{valid, points};
 ghost use Rattle.rules.specs.Lines.{linesOf};
 ghost use Rattle.rules.specs.Reader.{ended, pictureWidth, pictureArea, padded};
 ghost use Rattle.lay.specs.Rows.{codes, rowOf, rows};
+ghost use Rattle.lay.specs.Left.{Left};
 use crate::size::body;
 
 // Copies the bytes from `from` up to `to` of a line, one to a cell, from cell k on.
@@ -24,24 +25,50 @@ fn copy(row: &mut [u32], k: usize, line: &[u8], from: usize, to: usize)
     }
 }
 
-// Writes a line's code points from the first cell on. (Most are bytes below 80, in runs.)
+// How many bytes of a line are read, and how many cells of a row are written.
+struct Place {
+    at: usize,
+    k: usize,
+}
+
+// Writes the code point that stands at `from`, and those after it up to a byte below 80, from cell k on.
+fn put_wide(row: &mut [u32], k: usize, line: &[u8], from: usize) -> Place
+    requires { ⌜ (from < length (now line)) × (valid (drop from (now line)) ≡ true) × (k + length (points (drop from (now line))) ≤ length (now row)) ⌝ }
+    ensures { λ r. ⌜ (from < r .at) × Left (sets (now (row .entry)) k (points (drop from (now (line .entry))))) (length (now (row .entry))) (now (row .exit)) (now (line .entry)) (r .at) (r .k) ⌝ }
+{
+    let mut at = from;
+    let mut to = k;
+    loop {
+        let p = text::decode(&line[at..]);
+        row[to] = p.value;
+        at += p.size;
+        to += 1;
+        if at == line.len() {
+            return Place { at, k: to };
+        }
+        if line[at] < 0x80 {
+            return Place { at, k: to };
+        }
+    }
+}
+
+// Writes a line's code points from the first cell on: runs of bytes below 80, and what stands between them.
 fn put_points(row: &mut [u32], line: &[u8])
     requires { ⌜ (valid (now line) ≡ true) × (codes (now line) ≤ length (now row)) ⌝ }
     ensures { λ _. ⌜ now (row .exit) ≡ sets (now (row .entry)) 0 (points (now (line .entry))) ⌝ }
 {
     let mut at = 0;
     let mut k = 0;
-    while at < line.len() {
+    loop {
         let to = text::run_within(line, at, 0, 0x7F);
         copy(row, k, line, at, to);
         k += to - at;
         if to == line.len() {
             return;
         }
-        let p = text::decode(&line[to..]);
-        row[k] = p.value;
-        at = to + p.size;
-        k += 1;
+        let p = put_wide(row, k, line, to);
+        at = p.at;
+        k = p.k;
     }
 }
 

@@ -65,7 +65,13 @@ fn inside(
 }
 
 // The plan that is seen, from the outside in, delivered, if the picture is its drawing.
-pub(crate) fn look(cells: &[u32], width: u32, height: u32, table: &mut [u32], titles: &mut [u8]) -> Reading
+pub(crate) fn look(
+    cells: &[u32],
+    width: u32,
+    height: u32,
+    table: &mut [u32],
+    titles: &mut [u8],
+) -> Reading
     requires { ⌜ Picture (now cells) width height ⌝ }
     ensures { λ r. ⌜ Answered (now (cells .entry)) width height (now (table .entry)) (now (titles .entry)) r (now (table .exit)) (now (titles .exit)) ⌝ }
 {

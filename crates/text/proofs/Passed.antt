@@ -8,7 +8,7 @@ use native.Mathlib.Nat.{not-suc-le-zero}
 use native.Mathlib.Numerals.{add-one}
 use native.Mathlib.Omega.{arith}
 use lib.ListN.{length, getD, take, drop, length-append, length-drop, take-append-drop, drop-of-length-le}
-use lib.Seq.{drop-cons}
+use lib.Seq.{drop-cons, drop-drop}
 use borrow.Author.Tests.{le-leb, lt-leb}
 use Rattle.rules.specs.Base.{pick}
 use Rattle.rules.specs.Utf8.{tail, span, valid, points, utf8, more}
@@ -142,3 +142,15 @@ module _ (s : List ℕ) (k : ℕ) where
   pub begun-end : length s ≤ k → begun (drop k s) ≡ 0
   unfolding begun
   begun-end h = rw (drop-of-length-le s {i = k} h)
+
+  -- a few bytes more
+  pub begun-part : (e : ℕ) → k ≤ e → begun (drop k s) ≡ begun (take (e - k) (drop k s)) + begun (drop e s)
+  begun-part e h =
+      let z : k + (e - k) ≡ e = omega arith in
+      ap begun (sym (take-append-drop (e - k) (drop k s))) ∙ begun-append (take (e - k) (drop k s)) (drop (e - k) (drop k s))
+      ∙ ap (λ (l : List ℕ). begun (take (e - k) (drop k s)) + begun l) (drop-drop (e - k) k s ∙ rw z)
+
+pub begun-most : (s : List ℕ) → begun s ≤ length s
+unfolding begun
+begun-most [] = omega arith
+begun-most (b ∷ s) = omega (arith, begun-most s, begins-most b)

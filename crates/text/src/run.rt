@@ -53,7 +53,23 @@ fn sixteen_within(s: &[u8], at: usize, low: u8, high: u8) -> bool
     all(a, b, c, d)
 }
 
-// A place up to which all bytes from `from` on lie within bounds: whole sixteens are passed, and the run may go on.
+// The end of the run of bytes within bounds from `from` on, byte by byte.
+fn end_within(s: &[u8], from: usize, low: u8, high: u8) -> usize
+    requires { ⌜ from ≤ length (now s) ⌝ }
+    ensures { λ r. ⌜ (from ≤ r) × (r ≤ length (now (s .entry))) × Within (now (s .entry)) low high from r ⌝ }
+{
+    let mut at = from;
+    while at < s.len() {
+        if lies(s[at], low, high) {
+            at += 1;
+        } else {
+            return at;
+        }
+    }
+    at
+}
+
+// The end of the run of bytes within bounds from `from` on: whole sixteens, and then the rest byte by byte.
 pub fn run_within(s: &[u8], from: usize, low: u8, high: u8) -> usize
     requires { ⌜ from ≤ length (now s) ⌝ }
     ensures { λ r. ⌜ (from ≤ r) × (r ≤ length (now (s .entry))) × Within (now (s .entry)) low high from r ⌝ }
@@ -63,8 +79,8 @@ pub fn run_within(s: &[u8], from: usize, low: u8, high: u8) -> usize
         if sixteen_within(s, at, low, high) {
             at += 16;
         } else {
-            return at;
+            return end_within(s, at, low, high);
         }
     }
-    at
+    end_within(s, at, low, high)
 }

@@ -8,7 +8,7 @@ ghost use Rattle.rules.specs.Utf8.{following, continues, points, more};
 ghost use Rattle.rules.specs.Utf8 as rule;
 ghost use Rattle.text.specs.Ones as spec;
 ghost use Rattle.text.specs.Wanted.{wanted};
-ghost use Rattle.text.specs.Passed.{Passed, beginsOne};
+ghost use Rattle.text.specs.Passed.{Passed, beginsOne, begun};
 use crate::run::lies;
 use crate::run::run_within;
 
@@ -156,49 +156,50 @@ fn step(w: Wanted, b: u8) -> Wanted
 
 // The place after three bytes that are one code point from E2 on; or `at`.
 fn pass_three(s: &[u8], at: usize) -> usize
-    requires { ⌜ (at < length (now s)) × (getD (now s) at 0 ≡ 0xE2) ⌝ }
+    requires { ⌜ at ≤ length (now s) ⌝ }
     ensures { λ r. ⌜ Passed (now (s .entry)) at r ⌝ }
 {
     if s.len() - at < 3 {
         return at;
     }
-    if lies(s[at + 1], 0x80, 0xBF) {
-        if lies(s[at + 2], 0x80, 0xBF) {
-            return at + 3;
+    if s[at] == 0xE2 {
+        if lies(s[at + 1], 0x80, 0xBF) {
+            if lies(s[at + 2], 0x80, 0xBF) {
+                return at + 3;
+            }
         }
-    }
-    at
-}
-
-// The place after one code point of the kinds that pictures are full of, a byte below 80 or three from E2 on; or `at`.
-fn pass_one(s: &[u8], at: usize) -> usize
-    requires { ⌜ at < length (now s) ⌝ }
-    ensures { λ r. ⌜ Passed (now (s .entry)) at r ⌝ }
-{
-    let b = s[at];
-    if b < 0x80 {
-        return at + 1;
-    }
-    if b == 0xE2 {
-        return pass_three(s, at);
     }
     at
 }
 
 // The place after a run of such code points.
+fn pass_marks(s: &[u8], from: usize) -> usize
+    requires { ⌜ from ≤ length (now s) ⌝ }
+    ensures { λ r. ⌜ Passed (now (s .entry)) from r ⌝ }
+{
+    let mut at = from;
+    loop {
+        let to = pass_three(s, at);
+        if to == at {
+            return at;
+        }
+        at = to;
+    }
+}
+
+// The place after a run of what pictures are full of: bytes below 80, and three bytes from E2 on.
 fn pass(s: &[u8], from: usize) -> usize
     requires { ⌜ from ≤ length (now s) ⌝ }
     ensures { λ r. ⌜ Passed (now (s .entry)) from r ⌝ }
 {
     let mut at = from;
-    while at < s.len() {
-        let to = pass_one(s, at);
+    loop {
+        let to = pass_marks(s, run_within(s, at, 0, 0x7F));
         if to == at {
             return at;
         }
-        at = run_within(s, to, 0, 0x7F);
+        at = to;
     }
-    at
 }
 
 // The greater of two bytes.
@@ -307,7 +308,7 @@ pub fn decode(rest: &[u8]) -> Point
 }
 
 // 1 for a byte that begins a code point, 0 for one that goes on with it.
-fn begins(b: u8) -> usize
+fn begins(b: u8) -> u8
     ensures { λ r. ⌜ r ≡ beginsOne b ⌝ }
 {
     if b < 0x80 {
@@ -319,6 +320,31 @@ fn begins(b: u8) -> usize
     1
 }
 
+// How many of a few bytes begin a code point. (So few that a byte holds the number: the compiler counts sixteen at a time.)
+fn begun_in(s: &[u8]) -> u8
+    requires { ⌜ length (now s) ≤ 255 ⌝ }
+    ensures { λ r. ⌜ r ≡ begun (now (s .entry)) ⌝ }
+{
+    let mut at = 0;
+    let mut count: u8 = 0;
+    while at < s.len() {
+        count += begins(s[at]);
+        at += 1;
+    }
+    count
+}
+
+// The end of the next few of so many bytes, from `at` on.
+fn few(bytes: usize, at: usize) -> usize
+    requires { ⌜ at < bytes ⌝ }
+    ensures { λ r. ⌜ (at < r) × (r ≤ bytes) × (r ≤ at + 240) ⌝ }
+{
+    if bytes - at < 240 {
+        return bytes;
+    }
+    at + 240
+}
+
 // The number of code points of valid UTF-8: each has one byte that begins it.
 pub fn points_in(s: &[u8]) -> usize
     requires { ⌜ rule.valid (now s) ≡ true ⌝ }
@@ -327,8 +353,9 @@ pub fn points_in(s: &[u8]) -> usize
     let mut at = 0;
     let mut count: usize = 0;
     while at < s.len() {
-        count += begins(s[at]);
-        at += 1;
+        let to = few(s.len(), at);
+        count += begun_in(&s[at..to]) as usize;
+        at = to;
     }
     count
 }

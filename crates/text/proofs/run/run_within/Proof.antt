@@ -1,4 +1,4 @@
--- Sixteen bytes more join the run.
+-- Sixteen bytes more join the run, and then those to its end.
 use Prim.Native.Nat.{_+_, _≤_, _-_}
 use native.Mathlib.Omega.{arith}
 use lib.ListN.{length}
@@ -23,9 +23,6 @@ sub-loop c = search needs
 sixteen-within-requires : tie.Need-sixteen-within-requires Inv-loop μ-loop
 sixteen-within-requires c κs = search needs
 
-returns : tie.Need-returns Inv-loop μ-loop
-returns c = c .before .before .before .loop .inv
-
 add-at : tie.Need-add-at Inv-loop μ-loop
 add-at c = search needs
 
@@ -38,8 +35,25 @@ loop-again c =
     let a = c .before .before .before .before .before .args in
     (omega arith, omega arith, within-join (a .s .now) (a .low) (a .high) (a .from) (l .at) (l .at + 16) (l .inv .2) (c .before .sixteen-within .ensures (c .if1 .taken)))
 
+end-within-requires : tie.Need-end-within-requires Inv-loop μ-loop
+end-within-requires c κs = search needs
+
+returns : tie.Need-returns Inv-loop μ-loop
+returns c =
+    let l = c .before .before .before .before .loop in
+    let a = c .before .before .before .before .before .before .args in
+    let e = c .end-within in
+    (omega (arith, e .ensures .0), e .ensures .1, within-join (a .s .now) (a .low) (a .high) (a .from) (l .at) (e .result) (l .inv .2) (e .ensures .2))
+
+end-within-requires-2 : tie.Need-end-within-requires-2 Inv-loop μ-loop
+end-within-requires-2 c κs = search needs
+
 returns-2 : tie.Need-returns-2 Inv-loop μ-loop
-returns-2 c = c .before .loop .inv
+returns-2 c =
+    let l = c .before .before .loop in
+    let a = c .before .before .before .before .args in
+    let e = c .end-within2 in
+    (omega (arith, e .ensures .0), e .ensures .1, within-join (a .s .now) (a .low) (a .high) (a .from) (l .at) (e .result) (l .inv .2) (e .ensures .2))
 
 pub run-within-spec : {M : Type 1} → statement M
 run-within-spec =
@@ -53,5 +67,7 @@ run-within-spec =
     add-at
     loop-less
     loop-again
+    end-within-requires
     returns
+    end-within-requires-2
     returns-2)

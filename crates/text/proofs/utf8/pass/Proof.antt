@@ -1,4 +1,4 @@
--- One code point more, and a run of bytes below 80 after it.
+-- A run of bytes below 80, and a run of marks after it.
 use Prim.Native.Nat.{_-_}
 use native.Mathlib.Omega.{arith}
 use lib.ListN.{length}
@@ -17,29 +17,26 @@ abbrev μ-loop : tie.MeasureT-loop
 loop-holds : tie.Need-loop-holds Inv-loop μ-loop
 loop-holds c = passed-none _ _ (omega arith)
 
-pass-one-requires : tie.Need-pass-one-requires Inv-loop μ-loop
-pass-one-requires c κs = search needs
+run-within-requires : tie.Need-run-within-requires Inv-loop μ-loop
+run-within-requires c κs = c .loop .inv .within
+
+pass-marks-requires : tie.Need-pass-marks-requires Inv-loop μ-loop
+pass-marks-requires c κs = c .run-within .ensures .1
 
 returns : tie.Need-returns Inv-loop μ-loop
 returns c = c .before .before .before .loop .inv
 
-run-within-requires : tie.Need-run-within-requires Inv-loop μ-loop
-run-within-requires c κs = search needs
-
 loop-less : tie.Need-loop-less Inv-loop μ-loop
-loop-less c = omega (arith, c .before .before .pass-one .ensures .onward, c .run-within .ensures .0, c .run-within .ensures .1)
+loop-less c = (let p = c .before .pass-marks .ensures in omega (arith, p .onward, p .within, c .before .before .run-within .ensures .0))
 
 loop-again : tie.Need-loop-again Inv-loop μ-loop
 loop-again c =
-    let a = c .before .before .before .before .before .before .args in
-    let l = c .before .before .before .before .loop in
-    let o = c .before .before .pass-one in
-    let r = c .run-within in
-    passed-join (a .s .now) (a .from) (l .at) (r .result) (l .inv)
-    (passed-join (a .s .now) (l .at) (o .result) (r .result) (o .ensures) (passed-run (a .s .now) (o .result) (r .result) (r .ensures .0) (r .ensures .1) (r .ensures .2)))
-
-returns-2 : tie.Need-returns-2 Inv-loop μ-loop
-returns-2 c = c .before .loop .inv
+    let a = c .before .before .before .before .before .args in
+    let l = c .before .before .before .loop in
+    let r = c .before .before .run-within in
+    let m = c .before .pass-marks in
+    passed-join (a .s .now) (a .from) (l .at) (m .result) (l .inv)
+    (passed-join (a .s .now) (l .at) (r .result) (m .result) (passed-run (a .s .now) (l .at) (r .result) (r .ensures .0) (r .ensures .1) (r .ensures .2)) (m .ensures))
 
 pub pass-spec : {M : Type 1} → statement M
 pass-spec =
@@ -48,9 +45,8 @@ pass-spec =
     Inv-loop
     μ-loop
     loop-holds
-    pass-one-requires
-    returns
     run-within-requires
+    pass-marks-requires
+    returns
     loop-less
-    loop-again
-    returns-2)
+    loop-again)

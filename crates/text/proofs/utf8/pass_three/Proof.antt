@@ -1,5 +1,4 @@
 -- E2 and two bytes 10xxxxxx are passed.
-use Prim.Native.Nat.{_+_}
 use native.Mathlib.Omega.{arith}
 use Rattle.text.proofs.Passed.{passed-none, passed-three}
 use borrow.Author.Needs.{needs}
@@ -11,6 +10,9 @@ sub-if1 c = search needs
 
 returns : tie.Need-returns
 returns c = passed-none _ _ (omega arith)
+
+shared-slice-read-if2 : tie.Need-shared-slice-read-if2
+shared-slice-read-if2 c = search needs
 
 add-lies : tie.Need-add-lies
 add-lies c = search needs
@@ -35,8 +37,8 @@ add-result c = search needs
 
 returns-2 : tie.Need-returns-2
 returns-2 c =
-    let a = c .before .before .before .before .before .before .before .before in
-    passed-three (a .args .s .now) (a .args .at) (omega arith) (a .pre .1) (c .before .before .before .before .lies .ensures (c .before .before .before .if2 .taken)) (c .before .lies2 .ensures (c .if3 .taken))
+    let a = c .before .before .before .before .before .before .before .before .before .before .args in
+    passed-three (a .s .now) (a .at) (omega arith) (c .before .before .before .before .before .before .if2 .taken) (c .before .before .before .before .lies .ensures (c .before .before .before .if3 .taken)) (c .before .lies2 .ensures (c .if4 .taken))
 
 returns-3 : tie.Need-returns-3
 returns-3 c = passed-none _ _ (omega arith)
@@ -44,12 +46,16 @@ returns-3 c = passed-none _ _ (omega arith)
 returns-4 : tie.Need-returns-4
 returns-4 c = passed-none _ _ (omega arith)
 
+returns-5 : tie.Need-returns-5
+returns-5 c = passed-none _ _ (omega arith)
+
 pub pass-three-spec : {M : Type 1} → statement M
 pass-three-spec =
     tie.close
     (tie.spec
     sub-if1
     returns
+    shared-slice-read-if2
     add-lies
     shared-slice-read-lies
     lies-requires
@@ -59,4 +65,5 @@ pass-three-spec =
     add-result
     returns-2
     returns-3
-    returns-4)
+    returns-4
+    returns-5)

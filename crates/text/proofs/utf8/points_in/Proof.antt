@@ -1,10 +1,11 @@
--- The bytes counted and those that begin a code point from `at` on are all.
-use mathlib.Core.Path.{_≡_, ap, sym, _∙_}
+-- A few bytes more are counted; what is counted and what begins from `at` on is all.
+use mathlib.Core.Path.{_≡_}
 use Prim.Native.Nat.{_+_, _-_, _≤_}
 use native.Mathlib.Omega.{arith}
-use lib.ListN.{length, getD, drop}
+use lib.ListN.{length, take, drop, length-drop}
+use lib.Seq.{length-take-le}
 use Rattle.text.specs.Passed.{begun}
-use Rattle.text.proofs.Passed.{begun-points, begun-more, begun-end, begins-most}
+use Rattle.text.proofs.Passed.{begun-points, begun-part, begun-end, begun-most}
 use borrow.Author.Needs.{needs}
 use Rattle.text.proofs.utf8.points_in.Statement.{statement}
 use Rattle.text.proofs.utf8.points_in.Tie as tie
@@ -18,27 +19,53 @@ abbrev μ-loop : tie.MeasureT-loop
 loop-holds : tie.Need-loop-holds Inv-loop μ-loop
 loop-holds c = search needs
 
-shared-slice-read-begins : tie.Need-shared-slice-read-begins Inv-loop μ-loop
-shared-slice-read-begins c = search needs
+few-requires : tie.Need-few-requires Inv-loop μ-loop
+few-requires c κs = search needs
 
-begins-requires : tie.Need-begins-requires Inv-loop μ-loop
-begins-requires c κs = search needs
+sub-begun-in : tie.Need-sub-begun-in Inv-loop μ-loop
+sub-begun-in c = search needs
+
+part-begun-in-start : tie.Need-part-begun-in-start Inv-loop μ-loop
+part-begun-in-start c = search needs
+
+part-begun-in-end : tie.Need-part-begun-in-end Inv-loop μ-loop
+part-begun-in-end c = search needs
+
+begun-in-requires : tie.Need-begun-in-requires Inv-loop μ-loop
+begun-in-requires c κs =
+    let l = c .before .before .before .loop in
+    let f = c .before .few in
+    let s = c .before .before .before .before .before .args .s .now in
+    let t = take (f .result - l .at) (drop (l .at) s) in
+    let n : length t ≡ f .result - l .at = length-take-le (f .result - l .at) (drop (l .at) s) (omega (arith, length-drop (l .at) s, f .ensures .1)) in
+    omega (arith, n, f .ensures .2)
+
+cast-count : tie.Need-cast-count Inv-loop μ-loop
+cast-count c = search needs
 
 add-count : tie.Need-add-count Inv-loop μ-loop
-add-count c = record { fits = omega (arith, c .begins .ensures, begins-most (getD (c .before .before .before .before .before .args .s .now) (c .before .before .before .loop .at) 0)) }
-
-add-at : tie.Need-add-at Inv-loop μ-loop
-add-at c = search needs
+add-count c =
+    let l = c .before .before .before .before .loop in
+    let f = c .before .before .few in
+    let s = c .before .before .before .before .before .before .args .s .now in
+    let t = take (f .result - l .at) (drop (l .at) s) in
+    let n : length t ≡ f .result - l .at = length-take-le (f .result - l .at) (drop (l .at) s) (omega (arith, length-drop (l .at) s, f .ensures .1)) in
+    record { fits = omega (arith, n, c .begun-in .ensures, begun-most t, f .ensures .1, l .inv .1) }
 
 loop-less : tie.Need-loop-less Inv-loop μ-loop
-loop-less c = search needs
+loop-less c =
+    let f = c .before .before .few in
+    omega (arith, f .ensures .0, f .ensures .1)
 
 loop-again : tie.Need-loop-again Inv-loop μ-loop
 loop-again c =
-    let l = c .before .before .before .loop in
-    let s = c .before .before .before .before .before .args .s .now in
-    let m = begun-more s (l .at) (omega arith) in
-    (omega arith, omega (arith, c .begins .ensures, begins-most (getD s (l .at) 0)), omega (arith, c .begins .ensures, m, l .inv .2))
+    let l = c .before .before .before .before .loop in
+    let f = c .before .before .few in
+    let s = c .before .before .before .before .before .before .args .s .now in
+    let t = take (f .result - l .at) (drop (l .at) s) in
+    let n : length t ≡ f .result - l .at = length-take-le (f .result - l .at) (drop (l .at) s) (omega (arith, length-drop (l .at) s, f .ensures .1)) in
+    let m = begun-part s (l .at) (f .result) (omega (arith, f .ensures .0)) in
+    (f .ensures .1, omega (arith, n, c .begun-in .ensures, begun-most t, f .ensures .0, l .inv .1), omega (arith, c .begun-in .ensures, m, l .inv .2))
 
 returns : tie.Need-returns Inv-loop μ-loop
 returns c =
@@ -53,10 +80,13 @@ points-in-spec =
     Inv-loop
     μ-loop
     loop-holds
-    shared-slice-read-begins
-    begins-requires
+    few-requires
+    sub-begun-in
+    part-begun-in-start
+    part-begun-in-end
+    begun-in-requires
+    cast-count
     add-count
-    add-at
     loop-less
     loop-again
     returns)
