@@ -11,7 +11,7 @@
  * All memory is lent by the caller, by a pointer and its number of elements. Whatever is in the table, the titles and the picture, and whatever the
  * lengths are, each function comes back with an answer. Null pointers are allowed where the length is 0. What is lent must be there for
  * its whole length, aligned as its type asks, and no two of the lent memories may overlap; `answer` is never null. There is no state and
- * no allocation: any number of threads may call at once. The deepest stack is under 24 KiB.
+ * no allocation: any number of threads may call at once. The deepest stack is under 64 KiB.
  *
  * This prints the drawing of three nodes ("a" above "b" and "c"):
  *
