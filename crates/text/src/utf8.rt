@@ -244,8 +244,8 @@ fn onward(w: Wanted, s: &[u8], from: usize) -> usize
     from
 }
 
-// All of s is valid UTF-8.
-pub fn valid(s: &[u8]) -> bool
+// All of s is valid UTF-8, run by run and byte by byte.
+fn steps(s: &[u8]) -> bool
     ensures { λ r. ⌜ r ≡ rule.valid (now (s .entry)) ⌝ }
 {
     let mut w = Wanted {
@@ -259,6 +259,16 @@ pub fn valid(s: &[u8]) -> bool
         at = onward(w, s, at + 1);
     }
     w.bytes == 0
+}
+
+// All of s is valid UTF-8: at sight where no byte is above 7F.
+pub fn valid(s: &[u8]) -> bool
+    ensures { λ r. ⌜ r ≡ rule.valid (now (s .entry)) ⌝ }
+{
+    if plain(s) {
+        return true;
+    }
+    steps(s)
 }
 
 // A code point and the number of its bytes.
