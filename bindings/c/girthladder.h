@@ -50,10 +50,10 @@ enum girthladder_number {
     GIRTHLADDER_NONE = 3,   /* no node, drawing only: 0 */
     GIRTHLADDER_DEPTH = 4,  /* the depth rule is broken, or a depth is over 31: the first such node, counted from 0 */
     GIRTHLADDER_TITLE = 5,  /* a title reaches past the title bytes, or has over 1,024: the first such node */
-    GIRTHLADDER_UTF8 = 6,   /* a title is not valid UTF-8: the first such node */
-    GIRTHLADDER_LARGE = 7,  /* over 1,048,576 cells, drawing only: 0 */
-    GIRTHLADDER_CANVAS = 8, /* the canvas is too short, drawing only: cells needed */
-    GIRTHLADDER_ROOM = 9,   /* the output is too short: bytes needed */
+    GIRTHLADDER_UTF8 = 6,   /* a title is not valid UTF-8: the first such node; reading: the picture is not, 0 */
+    GIRTHLADDER_LARGE = 7,  /* over 1,048,576 cells, drawing and reading: 0 */
+    GIRTHLADDER_CANVAS = 8, /* the canvas is too short, drawing and reading: cells needed */
+    GIRTHLADDER_ROOM = 9,   /* the output is too short: bytes needed; reading: see there */
     GIRTHLADDER_UNDRAWN = 10 /* no ordinary plan is drawn as this picture, reading only: 0 */
 };
 
@@ -97,14 +97,15 @@ void girthladder_fenced(const uint32_t *table, size_t table_length,
  * limits) is drawn as those very bytes by girthladder_text; that plan is answered, and there is no second one.
  *   DONE    table[0 .. 3 * second) holds the plan's nodes, `second` of them; titles holds their titles one after another from 0 on.
  *           What lies beyond is unchanged.
- *   UTF8    the picture is not valid UTF-8: 0.          All memory is unchanged.
- *   UNDRAWN no ordinary plan is drawn so: 0.            An empty picture, or one that does not end in '\n', leaves all memory unchanged.
- *   LARGE   lines times longest line is over 1,048,576: 0.     All memory is unchanged.
- *   CANVAS  the canvas is too short: cells needed.      All memory is unchanged.
+ *   UTF8    the picture is not valid UTF-8: 0.
+ *   LARGE   lines times longest line is over 1,048,576: 0.
+ *   CANVAS  the canvas is too short: cells needed.
+ *   UNDRAWN no ordinary plan is drawn so: 0.
  *   ROOM    the table is too short: entries needed; else the titles are: bytes needed.
- * But for the first four as they are told here, canvas[0 .. lines * longest) holds the picture's code points, each line filled up with
- * spaces; table and titles change with DONE alone. No other number. Looked for in this order: UTF8, the empty or unended picture, LARGE,
- * CANVAS, UNDRAWN, ROOM. width, height and untitled are 0.
+ * UTF8, LARGE, CANVAS, and UNDRAWN of a picture that is empty or does not end in '\n', leave all memory unchanged. Else
+ * canvas[0 .. lines * longest) holds the picture's code points, each line filled up with spaces, and the rest of the canvas is unchanged;
+ * table and titles change with DONE alone. No other number. Looked for in this order: UTF8, the empty or unended picture, LARGE, CANVAS,
+ * UNDRAWN, ROOM. width, height and untitled are 0.
  * How much to lend: 768 entries of table and as many title bytes as the picture has are always room enough; CANVAS tells the cells. */
 void girthladder_read(const uint8_t *picture, size_t picture_length,
                       uint32_t *canvas, size_t canvas_length,

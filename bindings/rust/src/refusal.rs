@@ -18,9 +18,9 @@ pub enum Refusal {
     Title { node: usize, start: u32, length: u32, titles: usize },
     /// 6: this node's title is not valid UTF-8.
     Utf8 { node: usize },
-    /// 7: over 1,048,576 cells; drawing only.
+    /// 7: over 1,048,576 cells; drawing and reading.
     Large,
-    /// 8: the lent canvas is too short; drawing only.
+    /// 8: the lent canvas is too short; drawing and reading.
     Canvas { needed: usize },
     /// 9: the lent output is too short.
     Room { needed: usize },

@@ -53,7 +53,7 @@ fn sixteen_within(s: &[u8], at: usize, low: u8, high: u8) -> bool
     all(a, b, c, d)
 }
 
-// The end of the run of bytes within bounds from `from` on, byte by byte.
+// Passes bytes within bounds from `from` on, byte by byte, up to the first that is not.
 fn end_within(s: &[u8], from: usize, low: u8, high: u8) -> usize
     requires { ⌜ from ≤ length (now s) ⌝ }
     ensures { λ r. ⌜ (from ≤ r) × (r ≤ length (now (s .entry))) × Within (now (s .entry)) low high from r ⌝ }
@@ -69,7 +69,7 @@ fn end_within(s: &[u8], from: usize, low: u8, high: u8) -> usize
     at
 }
 
-// The end of the run of bytes within bounds from `from` on: whole sixteens, and then the rest byte by byte.
+// Passes bytes within bounds from `from` on, up to the first that is not: whole sixteens, and then byte by byte.
 pub fn run_within(s: &[u8], from: usize, low: u8, high: u8) -> usize
     requires { ⌜ from ≤ length (now s) ⌝ }
     ensures { λ r. ⌜ (from ≤ r) × (r ≤ length (now (s .entry))) × Within (now (s .entry)) low high from r ⌝ }
