@@ -285,7 +285,7 @@ fn low_bits(b: u8) -> u32
 }
 
 // The first code point of the rest of valid UTF-8: the leading ones of its first byte choose its length.
-pub fn decode(rest: &[u8]) -> Point
+fn by_ones(rest: &[u8]) -> Point
     requires { ⌜ (rule.valid (now rest) ≡ true) × (0 < length (now rest)) ⌝ }
     ensures { λ r. ⌜ (r .value ≡ getD (points (now (rest .entry))) 0 0) × (r .size ≡ more (getD (now (rest .entry)) 0 0) + 1) ⌝ }
 {
@@ -315,6 +315,20 @@ pub fn decode(rest: &[u8]) -> Point
         value: (((first % 8) as u32 * 64 + b) * 64 + c) * 64 + low_bits(rest[3]),
         size: 4,
     }
+}
+
+// The first code point of the rest of valid UTF-8. E2, which most marks of a picture begin with, is answered before ones are counted.
+pub fn decode(rest: &[u8]) -> Point
+    requires { ⌜ (rule.valid (now rest) ≡ true) × (0 < length (now rest)) ⌝ }
+    ensures { λ r. ⌜ (r .value ≡ getD (points (now (rest .entry))) 0 0) × (r .size ≡ more (getD (now (rest .entry)) 0 0) + 1) ⌝ }
+{
+    if rest[0] == 0xE2 {
+        return Point {
+            value: 0x2000 + low_bits(rest[1]) * 64 + low_bits(rest[2]),
+            size: 3,
+        };
+    }
+    by_ones(rest)
 }
 
 // 1 for a byte that begins a code point, 0 for one that goes on with it.
