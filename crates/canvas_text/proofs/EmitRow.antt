@@ -36,7 +36,7 @@ trim-four row x s =
     ∙ end-space f 0 (suc x) (ap (λ i. getD row i 0) (omega arith) ∙ s .b)
     ∙ end-space f 0 x (s .a))
 
-pub trim-eight : (row : List ℕ) (e : ℕ) (p q : Four) → 8 ≤ e → p ≡ fourAt row (e - 8) → q ≡ fourAt row (e - 4) → Same p 0x20 → Same q 0x20
+trim-eight : (row : List ℕ) (e : ℕ) (p q : Four) → 8 ≤ e → p ≡ fourAt row (e - 8) → q ≡ fourAt row (e - 4) → Same p 0x20 → Same q 0x20
     → endOf (rowOf row) 0 e ≡ endOf (rowOf row) 0 (e - 8)
 trim-eight row e p q h ep eq sp sq =
     let k : e - 4 + 4 ≡ e = omega arith in

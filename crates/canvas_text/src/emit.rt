@@ -92,27 +92,14 @@ fn sixteens(row: &[u32]) -> usize
     end
 }
 
-// The same end, or eight less if there are eight spaces before it.
-fn eight(row: &[u32], from: usize) -> usize
-    requires { ⌜ from ≤ length (now row) ⌝ }
-    ensures { λ r. ⌜ (r ≤ from) × (endOf (rowOf (now (row .entry))) 0 from ≡ endOf (rowOf (now (row .entry))) 0 r) ⌝ }
-{
-    if from < 8 {
-        return from;
-    }
-    let p = four_at(row, from - 8);
-    let q = four_at(row, from - 4);
-    if all(same(p, 0x20), same(q, 0x20), true, true) {
-        return from - 8;
-    }
-    from
-}
-
-// The length of a row without the spaces at its end.
+// The length of a row without the spaces at its end. (A narrow row is sooner looked at one by one.)
 pub fn trimmed(row: &[u32]) -> usize
     ensures { λ r. ⌜ r ≡ endIn (now (row .entry)) ⌝ }
 {
-    last(row, eight(row, sixteens(row)))
+    if row.len() < 32 {
+        return last(row, row.len());
+    }
+    last(row, sixteens(row))
 }
 
 // 1 from w on, else 0.
