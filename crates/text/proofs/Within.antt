@@ -6,7 +6,7 @@ use native.Mathlib.Omega.{arith}
 use native.Mathlib.Decide.{decLe}
 use lib.ListN.{length, getD, take, drop, length-drop}
 use lib.Seq.{getD-take, getD-drop, length-take-le}
-use Rattle.text.specs.Within.{Within}
+use Rattle.text.specs.Within.{Within, Stops}
 
 module _ (s : List ℕ) (low high : ℕ) where
   pub within-none : (a : ℕ) → Within s low high a a
@@ -15,10 +15,14 @@ module _ (s : List ℕ) (low high : ℕ) where
   pub within-join : (a m e : ℕ) → Within s low high a m → Within s low high m e → Within s low high a e
   within-join a m e p q k h l = elim (decLe (suc k) m) [ yes b ↦ p k h b | no b ↦ q k (omega arith) l ]
 
-  -- a walk that stands at m, and goes on from there
+  -- a walk that stands at m goes on from there, and, if it comes to its end, ends there
   pub run-on : (a m e : ℕ) → (a ≤ m) × (m ≤ length s) × Within s low high a m → (m ≤ e) × (e ≤ length s) × Within s low high m e
       → (a ≤ e) × (e ≤ length s) × Within s low high a e
   run-on a m e p q = (omega (arith, p .0, q .0), q .1, within-join a m e (p .2) (q .2))
+
+  pub run-out : (a m e : ℕ) → (a ≤ m) × (m ≤ length s) × Within s low high a m → (m ≤ e) × (e ≤ length s) × Within s low high m e × Stops s low high e
+      → (a ≤ e) × (e ≤ length s) × Within s low high a e × Stops s low high e
+  run-out a m e p q = (omega (arith, p .0, q .0), q .1, within-join a m e (p .2) (q .2), q .3)
 
   -- all of a part
   pub within-part : (a e : ℕ) → a ≤ e → e ≤ length s → Within (take (e - a) (drop a s)) low high 0 (length (take (e - a) (drop a s))) → Within s low high a e

@@ -1,9 +1,9 @@
 // Runs of bytes within bounds, sixteen or 64 at a time, which the compiler does in wide registers.
 ghost use mathlib.Core.Path.{_≡_};
-ghost use mathlib.Core.Bool.{true};
+ghost use mathlib.Core.Bool.{true, false};
 ghost use Prim.Native.Nat.{_+_, _≤_};
 ghost use lib.ListN.{length};
-ghost use Rattle.text.specs.Within.{Within};
+ghost use Rattle.text.specs.Within.{Within, Stops};
 
 // All four hold, if it says so.
 fn all(a: bool, b: bool, c: bool, d: bool) -> bool
@@ -14,7 +14,7 @@ fn all(a: bool, b: bool, c: bool, d: bool) -> bool
 
 // A byte lies within bounds.
 pub fn lies(b: u8, low: u8, high: u8) -> bool
-    ensures { λ r. ⌜ (r ≡ true → (low ≤ b) × (b ≤ high)) ⌝ }
+    ensures { λ r. ⌜ (r ≡ true → (low ≤ b) × (b ≤ high)) × (r ≡ false → low ≤ b → b ≤ high → ⊥) ⌝ }
 {
     if low <= b {
         return b <= high;
@@ -49,7 +49,7 @@ fn sixteen_within(s: &[u8], at: usize, low: u8, high: u8) -> bool
 // Passes bytes within bounds from `from` on, byte by byte, up to the first that is not.
 fn end_within(s: &[u8], from: usize, low: u8, high: u8) -> usize
     requires { ⌜ from ≤ length (now s) ⌝ }
-    ensures { λ r. ⌜ (from ≤ r) × (r ≤ length (now (s .entry))) × Within (now (s .entry)) low high from r ⌝ }
+    ensures { λ r. ⌜ (from ≤ r) × (r ≤ length (now (s .entry))) × Within (now (s .entry)) low high from r × Stops (now (s .entry)) low high r ⌝ }
 {
     let mut at = from;
     while at < s.len() {
@@ -65,7 +65,7 @@ fn end_within(s: &[u8], from: usize, low: u8, high: u8) -> usize
 // Passes bytes within bounds from `from` on, up to the first that is not: whole sixteens, and then byte by byte.
 fn sixteens_within(s: &[u8], from: usize, low: u8, high: u8) -> usize
     requires { ⌜ from ≤ length (now s) ⌝ }
-    ensures { λ r. ⌜ (from ≤ r) × (r ≤ length (now (s .entry))) × Within (now (s .entry)) low high from r ⌝ }
+    ensures { λ r. ⌜ (from ≤ r) × (r ≤ length (now (s .entry))) × Within (now (s .entry)) low high from r × Stops (now (s .entry)) low high r ⌝ }
 {
     let mut at = from;
     while 16 <= s.len() - at {
@@ -94,7 +94,7 @@ fn all_within(s: &[u8], low: u8, high: u8) -> bool
 // The same for a long run: 64 at a time, and then by sixteens.
 fn long_within(s: &[u8], from: usize, low: u8, high: u8) -> usize
     requires { ⌜ from ≤ length (now s) ⌝ }
-    ensures { λ r. ⌜ (from ≤ r) × (r ≤ length (now (s .entry))) × Within (now (s .entry)) low high from r ⌝ }
+    ensures { λ r. ⌜ (from ≤ r) × (r ≤ length (now (s .entry))) × Within (now (s .entry)) low high from r × Stops (now (s .entry)) low high r ⌝ }
 {
     let mut at = from;
     while 64 <= s.len() - at {
@@ -110,7 +110,7 @@ fn long_within(s: &[u8], from: usize, low: u8, high: u8) -> usize
 // The same for any run: by sixteens, and after 64 bytes as a long one.
 pub fn run_within(s: &[u8], from: usize, low: u8, high: u8) -> usize
     requires { ⌜ from ≤ length (now s) ⌝ }
-    ensures { λ r. ⌜ (from ≤ r) × (r ≤ length (now (s .entry))) × Within (now (s .entry)) low high from r ⌝ }
+    ensures { λ r. ⌜ (from ≤ r) × (r ≤ length (now (s .entry))) × Within (now (s .entry)) low high from r × Stops (now (s .entry)) low high r ⌝ }
 {
     let mut at = from;
     while 16 <= s.len() - at {

@@ -34,13 +34,15 @@ loop-again : tie.Need-loop-again Inv-loop μ-loop
 loop-again c =
     let l = c .before .before .before .before .loop in
     let a = c .before .before .before .before .before .before .args in
-    (omega arith, omega arith, within-join (a .s .now) (a .low) (a .high) (a .from) (l .at) (l .at + 1) (l .inv .2) (within-one (a .s .now) (a .low) (a .high) (l .at) _ refl (c .before .lies .ensures (c .if1 .taken))))
+    (omega arith, omega arith, within-join (a .s .now) (a .low) (a .high) (a .from) (l .at) (l .at + 1) (l .inv .2) (within-one (a .s .now) (a .low) (a .high) (l .at) _ refl (c .before .lies .ensures .0 (c .if1 .taken))))
 
 returns : tie.Need-returns Inv-loop μ-loop
-returns c = c .before .before .before .before .loop .inv
+returns c =
+    let v = c .before .before .before .before .loop .inv in
+    (v .0, v .1, v .2, λ h. c .before .lies .ensures .1 (c .if1 .left))
 
 returns-2 : tie.Need-returns-2 Inv-loop μ-loop
-returns-2 c = c .before .loop .inv
+returns-2 c = (let v = c .before .loop .inv in (v .0, v .1, v .2, λ h. absurd (omega arith)))
 
 pub end-within-spec : {M : Type 1} → statement M
 end-within-spec =

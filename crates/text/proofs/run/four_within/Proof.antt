@@ -47,10 +47,10 @@ returns c = λ e.
     let t = c .all .ensures e in
     let a = c .before .before .before .before .before .before .before .before .before .before .args in
     within-four (a .s .now) (a .low) (a .high) (a .at) 1 4
-    (within-one (a .s .now) (a .low) (a .high) (a .at) _ refl (c .before .before .before .before .before .before .before .lies .ensures (t .0)))
-    (within-one (a .s .now) (a .low) (a .high) (a .at + 1) _ refl (c .before .before .before .before .before .lies2 .ensures (t .1)))
-    (within-one (a .s .now) (a .low) (a .high) (a .at + 2) _ refl (c .before .before .before .lies3 .ensures (t .2)))
-    (within-one (a .s .now) (a .low) (a .high) (a .at + 3) _ refl (c .before .lies4 .ensures (t .3)))
+    (within-one (a .s .now) (a .low) (a .high) (a .at) _ refl (c .before .before .before .before .before .before .before .lies .ensures .0 (t .0)))
+    (within-one (a .s .now) (a .low) (a .high) (a .at + 1) _ refl (c .before .before .before .before .before .lies2 .ensures .0 (t .1)))
+    (within-one (a .s .now) (a .low) (a .high) (a .at + 2) _ refl (c .before .before .before .lies3 .ensures .0 (t .2)))
+    (within-one (a .s .now) (a .low) (a .high) (a .at + 3) _ refl (c .before .lies4 .ensures .0 (t .3)))
     refl
 
 pub four-within-spec : {M : Type 1} → statement M

@@ -3,7 +3,7 @@ use Prim.Native.Nat.{_+_, _≤_, _-_}
 use native.Mathlib.Omega.{arith}
 use lib.ListN.{length}
 use Rattle.text.specs.Within.{Within}
-use Rattle.text.proofs.Within.{within-none, run-on, within-part}
+use Rattle.text.proofs.Within.{within-none, run-on, run-out, within-part}
 use borrow.Author.Needs.{needs}
 use Rattle.text.proofs.run.long_within.Statement.{statement}
 use Rattle.text.proofs.run.long_within.Tie as tie
@@ -55,7 +55,7 @@ returns : tie.Need-returns Inv-loop μ-loop
 returns c =
     let l = c .before .before .before .before .before .loop in
     let a = c .before .before .before .before .before .before .before .args in
-    run-on (a .s .now) (a .low) (a .high) (a .from) (l .at) _ (l .inv) (c .sixteens-within .ensures)
+    run-out (a .s .now) (a .low) (a .high) (a .from) (l .at) _ (l .inv) (c .sixteens-within .ensures)
 
 sixteens-within-requires-2 : tie.Need-sixteens-within-requires-2 Inv-loop μ-loop
 sixteens-within-requires-2 c κs = search needs
@@ -64,7 +64,7 @@ returns-2 : tie.Need-returns-2 Inv-loop μ-loop
 returns-2 c =
     let l = c .before .before .loop in
     let a = c .before .before .before .before .args in
-    run-on (a .s .now) (a .low) (a .high) (a .from) (l .at) _ (l .inv) (c .sixteens-within2 .ensures)
+    run-out (a .s .now) (a .low) (a .high) (a .from) (l .at) _ (l .inv) (c .sixteens-within2 .ensures)
 
 pub long-within-spec : {M : Type 1} → statement M
 long-within-spec =

@@ -3,7 +3,7 @@ use Prim.Native.Nat.{_+_, _≤_, _-_}
 use native.Mathlib.Omega.{arith}
 use lib.ListN.{length}
 use Rattle.text.specs.Within.{Within}
-use Rattle.text.proofs.Within.{within-none, run-on}
+use Rattle.text.proofs.Within.{within-none, run-on, run-out}
 use borrow.Author.Needs.{needs}
 use Rattle.text.proofs.run.run_within.Statement.{statement}
 use Rattle.text.proofs.run.run_within.Tie as tie
@@ -30,7 +30,7 @@ returns : tie.Need-returns Inv-loop μ-loop
 returns c =
     let l = c .before .before .before .loop in
     let a = c .before .before .before .before .before .args in
-    run-on (a .s .now) (a .low) (a .high) (a .from) (l .at) _ (l .inv) (c .long-within .ensures)
+    run-out (a .s .now) (a .low) (a .high) (a .from) (l .at) _ (l .inv) (c .long-within .ensures)
 
 sixteen-within-requires : tie.Need-sixteen-within-requires Inv-loop μ-loop
 sixteen-within-requires c κs = search needs
@@ -54,7 +54,7 @@ returns-2 : tie.Need-returns-2 Inv-loop μ-loop
 returns-2 c =
     let l = c .before .before .before .before .before .loop in
     let a = c .before .before .before .before .before .before .before .args in
-    run-on (a .s .now) (a .low) (a .high) (a .from) (l .at) _ (l .inv) (c .end-within .ensures)
+    run-out (a .s .now) (a .low) (a .high) (a .from) (l .at) _ (l .inv) (c .end-within .ensures)
 
 end-within-requires-2 : tie.Need-end-within-requires-2 Inv-loop μ-loop
 end-within-requires-2 c κs = search needs
@@ -63,7 +63,7 @@ returns-3 : tie.Need-returns-3 Inv-loop μ-loop
 returns-3 c =
     let l = c .before .before .loop in
     let a = c .before .before .before .before .args in
-    run-on (a .s .now) (a .low) (a .high) (a .from) (l .at) _ (l .inv) (c .end-within2 .ensures)
+    run-out (a .s .now) (a .low) (a .high) (a .from) (l .at) _ (l .inv) (c .end-within2 .ensures)
 
 pub run-within-spec : {M : Type 1} → statement M
 run-within-spec =

@@ -3,7 +3,7 @@ use Prim.Native.Nat.{_+_, _≤_, _-_}
 use native.Mathlib.Omega.{arith}
 use lib.ListN.{length}
 use Rattle.text.specs.Within.{Within}
-use Rattle.text.proofs.Within.{within-none, run-on}
+use Rattle.text.proofs.Within.{within-none, run-on, run-out}
 use borrow.Author.Needs.{needs}
 use Rattle.text.proofs.run.sixteens_within.Statement.{statement}
 use Rattle.text.proofs.run.sixteens_within.Tie as tie
@@ -42,7 +42,7 @@ returns : tie.Need-returns Inv-loop μ-loop
 returns c =
     let l = c .before .before .before .before .loop in
     let a = c .before .before .before .before .before .before .args in
-    run-on (a .s .now) (a .low) (a .high) (a .from) (l .at) _ (l .inv) (c .end-within .ensures)
+    run-out (a .s .now) (a .low) (a .high) (a .from) (l .at) _ (l .inv) (c .end-within .ensures)
 
 end-within-requires-2 : tie.Need-end-within-requires-2 Inv-loop μ-loop
 end-within-requires-2 c κs = search needs
@@ -51,7 +51,7 @@ returns-2 : tie.Need-returns-2 Inv-loop μ-loop
 returns-2 c =
     let l = c .before .before .loop in
     let a = c .before .before .before .before .args in
-    run-on (a .s .now) (a .low) (a .high) (a .from) (l .at) _ (l .inv) (c .end-within2 .ensures)
+    run-out (a .s .now) (a .low) (a .high) (a .from) (l .at) _ (l .inv) (c .end-within2 .ensures)
 
 pub sixteens-within-spec : {M : Type 1} → statement M
 sixteens-within-spec =

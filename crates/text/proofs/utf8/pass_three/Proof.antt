@@ -38,7 +38,7 @@ add-result c = search needs
 returns-2 : tie.Need-returns-2
 returns-2 c =
     let a = c .before .before .before .before .before .before .before .before .before .before .args in
-    passed-three (a .s .now) (a .at) (omega arith) (c .before .before .before .before .before .before .if2 .taken) (c .before .before .before .before .lies .ensures (c .before .before .before .if3 .taken)) (c .before .lies2 .ensures (c .if4 .taken))
+    passed-three (a .s .now) (a .at) (omega arith) (c .before .before .before .before .before .before .if2 .taken) (c .before .before .before .before .lies .ensures .0 (c .before .before .before .if3 .taken)) (c .before .lies2 .ensures .0 (c .if4 .taken))
 
 returns-3 : tie.Need-returns-3
 returns-3 c = passed-none _ _ (omega arith)
