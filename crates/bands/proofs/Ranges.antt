@@ -12,11 +12,10 @@ use Rattle.rules.specs.Base.{pick}
 use Rattle.rules.specs.Levels.{View}
 use Rattle.rules.specs.Measures.{width, height, columnOffset, rowOffset, canvasWidth, canvasHeight}
 use Rattle.rules.specs.Drawing.{boxes}
-use Rattle.marks.specs.Numbers.{Numbers}
-use Rattle.marks.proofs.Columns.{left-after, left-total}
-use Rattle.marks.proofs.Places.{top-suc, top-after, column, row}
-use Rattle.marks.proofs.Reading.{top-total}
-use Rattle.bands.specs.Row.{endIn, bendIn}
+use Rattle.rules.proofs.Columns.{offset-after, offset-total, row-offset-after, row-offset-total}
+use Rattle.marks.specs.Numbers.{Numbers, endAt}
+use Rattle.marks.proofs.Places.{top-suc, column, row}
+use Rattle.bands.specs.Row.{bendIn}
 use Rattle.bands.specs.Parts.{columnFrom, rowFrom}
 
 pub record Column-part (v : View) (j : ℕ) : Type 0 where
@@ -39,11 +38,11 @@ pub record Row-part (v : View) (i : ℕ) : Type 0 where
 module _ (v : View) where
   pub columns-end : columnOffset length v (v .columns) ≡ canvasWidth length v + 1
   unfolding M.canvasWidth
-  columns-end = omega (arith, left-total length boxes v (v .columns))
+  columns-end = omega (arith, offset-total length v (v .columns))
 
   pub rows-end : 1 ≤ v .rows → rowOffset v (v .rows) ≡ canvasHeight v + 3
   unfolding M.canvasHeight
-  rows-end h = omega (arith, top-total length boxes v (v .rows))
+  rows-end h = omega (arith, row-offset-total v (v .rows))
 
   pub column-last : columnFrom v (v .columns) ≡ canvasWidth length v
   unfolding columnFrom pick
@@ -68,7 +67,7 @@ module _ (v : View) where
       let n = add-one j in
       elim (decLe (suc (suc j)) (v .columns)) [
         | yes l ↦
-            (let a = left-after length boxes v (suc j) (v .columns) l in
+            (let a = offset-after length v (suc j) (v .columns) l in
             let b = column length boxes v (suc j) in
             let f : columnFrom v (j + 1) ≡ columnOffset length v (suc j) = ap (columnFrom v) n ∙ column-here (suc j) l in
             record { from-is = column-here j h; to-most = omega arith; to-least = omega arith; on-canvas = omega arith; wide = c .wide-at-least; middle = c .middle })
@@ -86,7 +85,7 @@ module _ (v : View) where
       let n = add-one i in
       elim (decLe (suc (suc i)) (v .rows)) [
         | yes l ↦
-            (let a = top-after length boxes v (suc i) (v .rows) l in
+            (let a = row-offset-after v (suc i) (v .rows) l in
             let f : rowFrom v (i + 1) ≡ rowOffset v (suc i) = ap (rowFrom v) n ∙ row-here (suc i) l in
             record { from-is = row-here i h; to-most = omega arith; to-least = omega arith; on-canvas = omega arith; high = c .high-at-least; low = c .low; middle = c .middle })
         | no l ↦
@@ -98,8 +97,8 @@ module _ (v : View) where
 
   -- as the arrays have them
   module _ {w h ncols nrows : ℕ} {cx xs cy ys : List ℕ} (q : Numbers v w h ncols nrows cx xs cy ys) where
-    pub column-stop : (j : ℕ) → j < v .columns → endIn xs ncols w j ≡ columnFrom v (j + 1)
-    unfolding endIn columnFrom pick
+    pub column-stop : (j : ℕ) → j < v .columns → endAt xs ncols w j ≡ columnFrom v (j + 1)
+    unfolding endAt columnFrom pick
     column-stop j b =
         rw (q .columns-are)
         (elim (decLe (suc (j + 1)) (v .columns)) [
@@ -107,8 +106,8 @@ module _ (v : View) where
           | no l ↦ rw (le-ltb (j + 1) (v .columns) (omega arith)) (q .wide)
         ])
 
-    pub row-stop : (i : ℕ) → i < v .rows → endIn ys nrows h i ≡ rowFrom v (i + 1)
-    unfolding endIn rowFrom pick
+    pub row-stop : (i : ℕ) → i < v .rows → endAt ys nrows h i ≡ rowFrom v (i + 1)
+    unfolding endAt rowFrom pick
     row-stop i b =
         rw (q .rows-are)
         (elim (decLe (suc (i + 1)) (v .rows)) [

@@ -1,7 +1,7 @@
 -- The spots that the arrays of a plan give are those of its view, and each has room in its column and its band.
 use mathlib.Core.Path.{_≡_, refl, ap, sym, _∙_}
 use mathlib.Core.List.{List, [], _∷_, List·Memᴰ, List·Memᴰ·head, List·Memᴰ·cases-cons, List·Memᴰ·not-nil, Memᴰ·append-left, Memᴰ·append-right}
-use mathlib.Core.Bool.{Bool, true, false, _&&_, not, false≢true}
+use mathlib.Core.Bool.{Bool, true, false, _&&_, not, false≢true, or-true}
 use mathlib.Core.Logic.{⊎-elim}
 use Prim.Native.Nat.{ℕ, suc, zero, _+_, _-_, _/_, _^_, _≤_, _<_}
 use native.Mathlib.Numerals.{add-one}
@@ -19,6 +19,7 @@ use Rattle.rules.specs.Drawing.{boxes}
 use Rattle.rules.proofs.Lists.{mem-keep}
 use Rattle.levels.specs.Between.{cellOf}
 use Rattle.marks.specs.Joint.{Joint, atColumn, jointOf}
+use Rattle.marks.specs.Numbers.{endAt}
 use Rattle.marks.proofs.Places.{mem-inRow}
 use Rattle.marks.proofs.Keystone.{chain-of}
 use Rattle.marks.proofs.Joined.{upTo, By-tests, joint-tests}
@@ -28,10 +29,10 @@ use Rattle.tree_view.specs.Measured.{linesAt, longestAt}
 use Rattle.tree_view.proofs.Boxes.{cell-at, cell-lines, node-left, node-right, node-top, node-bottom}
 use Rattle.tree_view.proofs.Nodes.{longest-at-le, lines-at-le}
 use Rattle.tree_view.proofs.Limits.{fits-width, fits-height, cx-le, cy-le, columns-le}
-use Rattle.bands.specs.Row.{Row, nodesIn, some, seenTo, goesIn, endIn, RowOf}
+use Rattle.bands.specs.Row.{Row, nodesIn, some, seenTo, goesIn, RowOf}
 use Rattle.bands.specs.Strip.{sizeOf, spotIn, Room, Apt}
 use Rattle.bands.specs.Ready.{Ready}
-use Rattle.bands.proofs.Tests.{or-yes, On, some-at, on-at, none-above, seen-up, goes-on}
+use Rattle.bands.proofs.Tests.{On, some-at, on-at, none-above, seen-up, goes-on}
 use Rattle.bands.proofs.Ranges.{Column-part, Row-part, column-part, row-part, column-stop, row-stop, row-bends}
 
 -- ---- a cell of a row in a column
@@ -40,7 +41,7 @@ unfolding atColumn
 at-mem j [] c m e = absurd (List·Memᴰ·not-nil m)
 at-mem j (b ∷ ps) c m e =
     ⊎-elim (λ (q : c ≡ b). rw (eq-eqb (b .column) j (ap (λ (d : Cell). d .column) (sym q) ∙ e)))
-    (λ (n : List·Memᴰ c ps). rw (at-mem j ps c n e) (or-yes (eqb (b .column) j)))
+    (λ (n : List·Memᴰ c ps). rw (at-mem j ps c n e) (or-true (eqb (b .column) j)))
     (List·Memᴰ·cases-cons m)
 
 joint-equal : (q : Joint) (a b c : Bool) → q .parent ≡ a → q .child ≡ b → q .on ≡ c → _≡_ {A = Joint} (record { parent = a; child = b; on = c }) q
@@ -228,14 +229,14 @@ module _ {p : List Node} {g : ℕ → ℕ → ℕ} {w h : ℕ} {T : List ℕ} {n
         d = row-part (view p) i hi
 
         room : (n t : ℕ) → t + 6 ≤ width length (view p) j → n + 2 ≤ height (view p) i → n ≤ 1025 → t ≤ 1024 → (some (r .here) j ≡ true → 1 ≤ n)
-            → Room w r (getD xs j 0) (endIn xs ncols w j) (getD cx j 0) n t (some (r .here) j)
+            → Room w r (getD xs j 0) (endAt xs ncols w j) (getD cx j 0) n t (some (r .here) j)
         room n t a b f g one =
             let x = q .numbers .cx-is j hj in
             let y : r .middle ≡ M.cy (view p) i = o .middle-is ∙ q .numbers .cy-is i hi in
             let s = column-stop (view p) (q .numbers) j hj in
             let u = row-stop (view p) (q .numbers) i hi in
             let ww = q .numbers .wide in
-            room-for w r (getD xs j 0) (endIn xs ncols w j) (getD cx j 0) n t (columnOffset length (view p) j) (width length (view p) j) (rowOffset (view p) i) (height (view p) i) (some (r .here) j)
+            room-for w r (getD xs j 0) (endAt xs ncols w j) (getD cx j 0) n t (columnOffset length (view p) j) (width length (view p) j) (rowOffset (view p) i) (height (view p) i) (some (r .here) j)
             (omega (arith, c .on-canvas)) (q .numbers .x-is j hj) (omega (arith, c .to-least)) (c .wide) (x ∙ c .middle) a
             (o .top-is ∙ q .numbers .y-is i hi) (omega (arith, o .end-is, d .to-least)) (o .bend-is ∙ row-bends (view p) (q .numbers) i hi) (y ∙ d .middle) (d .low) b
             (omega (arith, cx-le p (q .small) j (omega (arith, e256)))) (omega (arith, cy-le p (q .small) i (omega (arith, drawn .few-rows)))) one

@@ -1,7 +1,7 @@
 -- The columns of a row one after another: the code's spot is the row's, it fits into its column, and one column more is compared.
 use mathlib.Core.Path.{_≡_, refl, ap, sym, _∙_}
 use mathlib.Core.List.{List}
-use mathlib.Core.Bool.{Bool, true, false, _&&_, _||_, false≢true}
+use mathlib.Core.Bool.{Bool, true, false, _&&_, _||_, false≢true, and-true}
 use Prim.Native.Nat.{ℕ, _+_, _-_, _*_, _≤_, _<_}
 use native.Mathlib.Numerals.{add-one}
 use native.Mathlib.Omega.{arith}
@@ -11,10 +11,11 @@ use Rattle.rules.specs.Drawing.{boxes}
 use Rattle.rules.proofs.Candidate.{from}
 use Rattle.marks.specs.Alike.{alikeIn}
 use Rattle.marks.specs.Spot.{Spot, spotMark}
-use Rattle.marks.proofs.Alike.{every-split, every-all, and-yes}
+use Rattle.marks.specs.Numbers.{endAt}
+use Rattle.marks.proofs.Alike.{every-split, every-all}
 use Rattle.field.specs.declared.spot.Spot as F
 use Rattle.field.specs.Fits.{plain, Fits}
-use Rattle.bands.specs.Row.{Row, some, seenTo, endIn}
+use Rattle.bands.specs.Row.{Row, some, seenTo}
 use Rattle.bands.specs.Strip.{sizeOf, spotBy, spotIn, stripSame, stripsSame, Room}
 
 pub fits-spot : (s : F.Spot) (width : ℕ) (r : Row) (a b x n t : ℕ) (cell up child on : Bool)
@@ -57,7 +58,7 @@ module _ (cells : List ℕ) (width : ℕ) (r : Row) (lines longest cx xs : List 
       → n ≡ sizeOf lines (getD (r .here) j 0) → t ≡ sizeOf longest (getD (r .here) j 0)
       → plain s
       ≡ spotBy (some (r .here) j) ((over || some (r .above) j) && some (r .here) j) ((seen || some (r .here) j) && some (r .next) j) ((seen || some (r .here) j) && some (r .on) j) (r .bend) (getD cx j 0) (r .middle) n t
-      → b ≡ endIn xs ncols width j
+      → b ≡ endAt xs ncols width j
       → same ≡ alikeIn (λ x y. getD cells (y * width + x) 0) (λ x y. spotMark boxes (plain s) (getD cells (y * width + x) 0) x y) (getD xs j 0) b (r .top) (r .end)
       → same ≡ stripSame cells width r lines longest cx xs ncols j
   unfolding stripSame seenTo
@@ -75,7 +76,7 @@ module _ (cells : List ℕ) (width : ℕ) (r : Row) (lines longest cx xs : List 
   unfolding every from
   strips-next j =
       let z : 0 + j ≡ j = omega arith in
-      every-split (stripSame cells width r lines longest cx xs ncols) 0 j 1 ∙ rw (z, and-yes (stripSame cells width r lines longest cx xs ncols j))
+      every-split (stripSame cells width r lines longest cx xs ncols) 0 j 1 ∙ rw (z, and-true (stripSame cells width r lines longest cx xs ncols j))
 
   pub strips-more : (j : ℕ) → stripsSame cells width r lines longest cx xs ncols j ≡ true → true ≡ stripSame cells width r lines longest cx xs ncols j
       → stripsSame cells width r lines longest cx xs ncols (j + 1) ≡ true

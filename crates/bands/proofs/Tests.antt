@@ -1,7 +1,7 @@
 -- The tests of a row's lists are the tests of a joint: a node stands in a column, one stands there or further left, and a line goes on.
 use mathlib.Core.Path.{_≡_, refl, ap, sym, _∙_}
 use mathlib.Core.List.{List, [], _∷_, _++_, List·Memᴰ}
-use mathlib.Core.Bool.{Bool, true, false, _&&_, _||_, not}
+use mathlib.Core.Bool.{Bool, true, false, _&&_, _||_, not, or-true, or-false}
 use Prim.Native.Nat.{ℕ, suc, zero, _+_, _-_, _≤_, _<_}
 use native.Mathlib.Decide.{ℕ-discrete}
 use native.Mathlib.Omega.{arith}
@@ -16,7 +16,7 @@ use Rattle.rules.proofs.Keeps.{keep-append}
 use Rattle.levels.specs.Between.{cellOf}
 use Rattle.marks.specs.Joint.{atColumn}
 use Rattle.marks.proofs.Chains.{Chain}
-use Rattle.marks.proofs.Joined.{upTo, or-false}
+use Rattle.marks.proofs.Joined.{upTo}
 use Rattle.marks.proofs.Running.{up-zero, up-suc, onward, onward-suc, onward-last}
 use Rattle.tree_view.proofs.Sizes.{replicate-at}
 use Rattle.tree_view.proofs.Boxes.{cell-at}
@@ -32,10 +32,6 @@ at-append j (c ∷ l) m = go (at-append j l m) (eqb (c .column) j)
     go : atColumn j (l ++ m) ≡ atColumn j l || atColumn j m → (b : Bool) → (b || atColumn j (l ++ m)) ≡ (b || atColumn j l) || atColumn j m
     go ih true = refl
     go ih false = ih
-
-pub or-yes : (b : Bool) → (b || true) ≡ true
-or-yes true = refl
-or-yes false = refl
 
 at-one : (j : ℕ) (t : Cell → Bool) (c : Cell) → atColumn j (keep t (c ∷ [])) ≡ t c && eqb (c .column) j
 unfolding atColumn keep pick
@@ -97,7 +93,7 @@ module _ (p : List Node) (T C : List ℕ) (dep : (k : ℕ) → k < length p → 
 
       go : not (eqb (getD (nodesIn T C (i + 1) n) j 0) 0) ≡ atColumn j (keep (λ c. eqb (c .row) i) (each (cellAt p) n)) → (s : Bool)
           → not (eqb (pick s (suc n) (getD (nodesIn T C (i + 1) n) j 0)) 0) ≡ atColumn j (keep (λ c. eqb (c .row) i) (each (cellAt p) n)) || s
-      go ih true = rw (ne-eqb (suc n) 0 (λ q. omega arith)) (sym (or-yes (atColumn j (keep (λ c. eqb (c .row) i) (each (cellAt p) n)))))
+      go ih true = rw (ne-eqb (suc n) 0 (λ q. omega arith)) (sym (or-true (atColumn j (keep (λ c. eqb (c .row) i) (each (cellAt p) n)))))
       go ih false = ih ∙ sym (or-false (atColumn j (keep (λ c. eqb (c .row) i) (each (cellAt p) n))))
 
   -- and the entry is that node's

@@ -7,6 +7,7 @@ use lib.Dec.{ltb, eqb}
 use lib.ListN.{getD, set, replicate}
 use Rattle.rules.specs.Base.{pick}
 use Rattle.rules.specs.Plan.{depthIn}
+use Rattle.marks.specs.Numbers.{endAt}
 
 -- of the first n nodes those of the row above row `under`: k + 1 in the column of node k, 0 where there is none
 unfoldable pub nodesIn : (table column : List ℕ) (under n : ℕ) → List ℕ
@@ -33,10 +34,6 @@ unfoldable pub goesIn : (here next : List ℕ) (j m : ℕ) → ℕ
 goesIn here next j zero = 0
 goesIn here next j (suc m) = passes (getD here (suc j) 0) (getD next (suc j) 0) (goesIn here next (suc j) m)
 
--- where part k of n ends: where the next one begins, the last at `last`
-unfoldable pub endIn : (starts : List ℕ) (n last k : ℕ) → ℕ
-endIn starts n last k = pick (ltb (k + 1) n) (getD starts (k + 1) 0) last
-
 -- where the lines of row i of n bend
 unfoldable pub bendIn : (ys : List ℕ) (n height i : ℕ) → ℕ
 bendIn ys n height i = pick (ltb (i + 1) n) (getD ys (i + 1) 0 - 2) (height + 1)
@@ -62,6 +59,6 @@ pub record RowOf (table : List ℕ) (nodes : ℕ) (column : List ℕ) (ncols : �
   pub next-is : r .next ≡ nodesIn table column (i + 2) nodes
   pub on-is : (j : ℕ) → j < ncols → getD (r .on) j 0 ≡ goesIn (r .here) (r .next) j (ncols - 1 - j)
   pub top-is : r .top ≡ getD ys i 0
-  pub end-is : r .end ≡ endIn ys nrows height i
+  pub end-is : r .end ≡ endAt ys nrows height i
   pub bend-is : r .bend ≡ bendIn ys nrows height i
   pub middle-is : r .middle ≡ getD cy i 0

@@ -10,8 +10,9 @@ use Rattle.rules.specs.Drawing.{boxes}
 use Rattle.rules.proofs.Candidate.{from}
 use Rattle.marks.specs.Alike.{alikeIn}
 use Rattle.marks.specs.Spot.{Spot, spotMark}
+use Rattle.marks.specs.Numbers.{endAt}
 use Rattle.tree_view.specs.Box.{leftOf, topOf, rightOf, bottomOf}
-use Rattle.bands.specs.Row.{Row, some, seenTo, endIn}
+use Rattle.bands.specs.Row.{Row, some, seenTo}
 
 -- what a list has of node k - 1; 0 where k is 0
 unfoldable pub sizeOf : List ℕ → ℕ → ℕ
@@ -41,7 +42,7 @@ spotIn r lines longest cx j =
 unfoldable pub stripSame : (cells : List ℕ) (width : ℕ) (r : Row) (lines longest cx xs : List ℕ) (ncols j : ℕ) → Bool
 stripSame cells width r lines longest cx xs ncols j =
     alikeIn (λ x y. getD cells (y * width + x) 0) (λ x y. spotMark boxes (spotIn r lines longest cx j) (getD cells (y * width + x) 0) x y)
-    (getD xs j 0) (endIn xs ncols width j) (r .top) (r .end)
+    (getD xs j 0) (endAt xs ncols width j) (r .top) (r .end)
 
 -- the marks of the first m columns
 abbrev pub stripsSame : (cells : List ℕ) (width : ℕ) (r : Row) (lines longest cx xs : List ℕ) (ncols m : ℕ) → Bool
@@ -67,4 +68,4 @@ pub record Room (width : ℕ) (r : Row) (a b x n t : ℕ) (cell : Bool) : Type 0
 -- so have all columns of a row
 pub record Apt (width : ℕ) (r : Row) (lines longest cx xs : List ℕ) (ncols j : ℕ) : Type 0 where
   pub node : getD (r .here) j 0 ≤ 256
-  pub room : Room width r (getD xs j 0) (endIn xs ncols width j) (getD cx j 0) (sizeOf lines (getD (r .here) j 0)) (sizeOf longest (getD (r .here) j 0)) (some (r .here) j)
+  pub room : Room width r (getD xs j 0) (endAt xs ncols width j) (getD cx j 0) (sizeOf lines (getD (r .here) j 0)) (sizeOf longest (getD (r .here) j 0)) (some (r .here) j)

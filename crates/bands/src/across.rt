@@ -5,15 +5,16 @@ ghost use Prim.Native.Nat.{ℕ, _+_, _*_, _/_, _^_, _≤_, _<_};
 ghost use lib.Dec.{eqb};
 ghost use lib.ListN.{length};
 ghost use Rattle.rules.specs.Base.{halfUp};
+ghost use Rattle.marks.specs.Numbers.{endAt};
 ghost use Rattle.field.specs.Fits.{plain};
-ghost use Rattle.bands.specs.Row.{rowBy, endIn};
+ghost use Rattle.bands.specs.Row.{rowBy};
 ghost use Rattle.bands.specs.Strip.{sizeOf, spotBy, stripsSame, Apt};
 use field::Spot;
 
 // Where column j ends: where the next one begins, the last with the canvas.
 fn column_end(xs: &[u32; 256], ncols: u32, j: usize, width: u32) -> u32
     requires { ⌜ (j < ncols) × (ncols ≤ 256) ⌝ }
-    ensures { λ r. ⌜ r ≡ endIn (now (xs .entry)) ncols width j ⌝ }
+    ensures { λ r. ⌜ r ≡ endAt (now (xs .entry)) ncols width j ⌝ }
 {
     if j + 1 < text::wide(ncols) {
         return xs[j + 1];

@@ -2,12 +2,13 @@
 ghost use mathlib.Core.Path.{_≡_};
 ghost use Prim.Native.Nat.{_+_, _≤_, _<_};
 ghost use lib.ListN.{getD};
-ghost use Rattle.bands.specs.Row.{endIn, bendIn};
+ghost use Rattle.marks.specs.Numbers.{endAt};
+ghost use Rattle.bands.specs.Row.{bendIn};
 
 // Where row i and the gap under it end: where the next row begins, the last with the canvas.
 pub(crate) fn row_end(ys: &[u32; 32], nrows: u32, i: u32, height: u32) -> u32
     requires { ⌜ (i < nrows) × (nrows ≤ 32) ⌝ }
-    ensures { λ r. ⌜ r ≡ endIn (now (ys .entry)) nrows height i ⌝ }
+    ensures { λ r. ⌜ r ≡ endAt (now (ys .entry)) nrows height i ⌝ }
 {
     if i + 1 < nrows {
         return ys[text::wide(i) + 1];

@@ -1,6 +1,6 @@
 -- A run of marks stored in a row: one more at its end, what falls past the row's end, and what each cell of the row then holds.
 -- `sets` stores one mark after another, and a store past the end changes nothing.
-use mathlib.Core.Path.{_≡_, refl, ap, sym, _∙_}
+use mathlib.Core.Path.{_≡_, ap, sym, _∙_}
 use mathlib.Core.List.{List, [], _∷_, _++_}
 use Prim.Native.Nat.{ℕ, suc, _+_, _-_, _≤_, _<_, min, max}
 use native.Mathlib.Nat.{add-zero, sub-self}
@@ -9,14 +9,10 @@ use native.Mathlib.Decide.{decLe, ℕ-discrete}
 use native.Mathlib.Omega.{arith}
 use lib.Dec.{leb}
 use lib.ListN.{length, getD, set, replicate, length-set, length-replicate, replicate-append-replicate}
-use lib.Seq.{sets, length-sets, set-out, getD-set-same, getD-set-other}
+use lib.Seq.{sets, length-sets, getD-set-same, getD-set-other}
 use borrow.Author.Tests.{le-leb, lt-leb}
-use Rattle.rules.proofs.Lists.{sets-append}
+use Rattle.rules.proofs.Lists.{sets-append, sets-out}
 use Rattle.rules.specs.Base.{pick}
-
-pub sets-out : (l : List ℕ) (i : ℕ) (vs : List ℕ) → length l ≤ i → sets l i vs ≡ l
-sets-out l i [] h = refl
-sets-out l i (v ∷ vs) h = rw (set-out l i v h) (sets-out l (suc i) vs (omega arith))
 
 pub one-more : (l : List ℕ) (x k m : ℕ) → x ≤ k → set (sets l x (replicate (k - x) m)) k m ≡ sets l x (replicate (k + 1 - x) m)
 one-more l x k m h =

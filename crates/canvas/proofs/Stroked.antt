@@ -9,8 +9,9 @@ use native.Mathlib.Omega.{arith}
 use lib.ListN.{length, getD, drop, length-append, length-drop, List·getD-append}
 use lib.Seq.{ext-getD, getD-append-add, getD-drop}
 use Rattle.rules.specs.Base.{each}
-use Rattle.rules.specs.Strokes.{Stroke, mark, over}
+use Rattle.rules.specs.Strokes.{Stroke, over}
 use Rattle.rules.proofs.Lists.{length-each, each-at}
+use Rattle.rules.proofs.Strokes.{over-append}
 use Rattle.canvas.specs.Stroked.{stroked}
 
 module _ (w h : ℕ) (ss : List Stroke) (l : List ℕ) where
@@ -89,11 +90,6 @@ stroked-same w h ss ts l f e =
     (stroked-out w h ss l)
 
 -- strokes, and then strokes
-over-append : (old : ℕ) (ss ts : List Stroke) (x y : ℕ) → over old (ss ++ ts) x y ≡ over (over old ss x y) ts x y
-unfolding over
-over-append old [] ts x y = refl
-over-append old (s ∷ ss) ts x y = over-append (mark s x y old) ss ts x y
-
 pub stroked-append : (w h : ℕ) (ss ts : List Stroke) (l : List ℕ) → w * h ≤ length l
     → stroked w h (ss ++ ts) l ≡ stroked w h ts (stroked w h ss l)
 stroked-append w h ss ts l f =

@@ -9,11 +9,12 @@ use lib.Seq.{sets}
 use Rattle.rules.specs.Base.{each, pick}
 use Rattle.rules.specs.Utf8.{utf8}
 use Rattle.rules.proofs.Chars.{utf8-one, utf8-three}
-use Rattle.rules.proofs.Text.{each-next, each-room, each-rises, each-bound, utf8-some}
+use Rattle.rules.proofs.Text.{each-next, each-room, each-rises, each-bound}
 use Rattle.canvas_text.specs.Emit.{rowOf, fourAt, Same, Plain, cellsIn, lineBytes, bytesTo, bytesIn}
 use Rattle.canvas_text.specs.declared.emit.Four.{Four}
 use Rattle.canvas_text.proofs.EmitRow.{stored}
 use Rattle.rules.proofs.Keeps.{each-add}
+use Rattle.rules.proofs.Codec.{utf8-size}
 
 -- n cells from x on, and the next
 module _ (row : List ℕ) (x n : ℕ) where
@@ -33,7 +34,7 @@ module _ (row : List ℕ) (x n : ℕ) where
 -- the bytes of n cells from x on: at most four each
 pub in-bound : (row : List ℕ) (x n : ℕ) → length (bytesIn row x n) ≤ 4 * n
 unfolding bytesIn rowOf
-in-bound row x n = omega (arith, each-bound (λ k. utf8 (getD row (x + k) 0)) n 4 (λ k h. utf8-some (getD row (x + k) 0) .1))
+in-bound row x n = omega (arith, each-bound (λ k. utf8 (getD row (x + k) 0)) n 4 (λ k h. utf8-size (getD row (x + k) 0) .1))
 
 -- one each where all are plain
 pub plain-length : (row : List ℕ) (x n : ℕ) → ((k : ℕ) → x ≤ k → k < x + n → getD row k 0 < 0x80) → length (bytesIn row x n) ≡ n

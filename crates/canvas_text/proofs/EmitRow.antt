@@ -11,8 +11,9 @@ use lib.Seq.{sets, getD-take, getD-drop}
 use Rattle.rules.specs.Utf8.{utf8}
 use Rattle.rules.specs.Drawing.{endOf, rowText}
 use Rattle.rules.proofs.Chars.{utf8-one, utf8-two, utf8-three, utf8-four}
-use Rattle.rules.proofs.Text.{each-next, each-bound, utf8-some, end-space, end-mark, end-within, row-same}
+use Rattle.rules.proofs.Text.{each-next, each-bound, end-space, end-mark, end-within, row-same}
 use Rattle.rules.proofs.Lists.{sets-append}
+use Rattle.rules.proofs.Codec.{utf8-size}
 use Rattle.canvas_text.specs.Emit.{cellsOf, rowOf, fourAt, Same, Over, endIn, bytesTo, rowIn}
 use Rattle.canvas_text.specs.declared.emit.Four.{Four}
 
@@ -74,7 +75,7 @@ module _ (row : List ℕ) (n : ℕ) where
 
   pub bytes-bound : length (bytesTo row n) ≤ 4 * n
   unfolding bytesTo rowOf
-  bytes-bound = omega (arith, each-bound (λ x. utf8 (getD row x 0)) n 4 (λ k h. utf8-some (getD row k 0) .1))
+  bytes-bound = omega (arith, each-bound (λ x. utf8 (getD row x 0)) n 4 (λ k h. utf8-size (getD row k 0) .1))
 
 pub end-in : (row : List ℕ) → endIn row ≤ length row
 unfolding endIn

@@ -1,7 +1,7 @@
 -- Rows 0 to 2: row 0 column by column, each with its index inside, and nothing is left after the last; then the axis, and a row of spaces.
 use mathlib.Core.Path.{_≡_, refl, ap, sym, _∙_}
 use mathlib.Core.List.{List}
-use mathlib.Core.Bool.{true, _&&_}
+use mathlib.Core.Bool.{true, _&&_, and-assoc, and-true}
 use Prim.Native.Nat.{ℕ, suc, _+_, _*_, _-_, _≤_, _<_}
 use native.Mathlib.Numerals.{add-one}
 use native.Mathlib.Decide.{decLe}
@@ -14,15 +14,16 @@ use Rattle.rules.specs.Levels.{View}
 use Rattle.rules.specs.Measures.{width, columnOffset, canvasWidth}
 use Rattle.rules.specs.Drawing.{boxes}
 use Rattle.rules.proofs.Digits.{digits-few}
+use Rattle.rules.proofs.Columns.{offset-total}
 use Rattle.marks.specs.Alike.{alike, alikeIn}
 use Rattle.marks.specs.Whole.{indexAt, markAt}
-use Rattle.marks.proofs.Alike.{and-assoc, and-yes, alike-split, alike-none, alike-same, in-one}
-use Rattle.marks.proofs.Columns.{left-suc, left-total}
+use Rattle.marks.specs.Numbers.{endAt}
+use Rattle.marks.proofs.Alike.{alike-split, alike-none, alike-same, in-one, in-first, pieces}
+use Rattle.marks.proofs.Columns.{left-suc}
 use Rattle.marks.proofs.Places.{column}
 use Rattle.marks.proofs.Reading.{column-wide, wide-low}
-use Rattle.edges.specs.Edge.{indexed, ruled, endAt, labelAt, Roomy, Across}
-use Rattle.edges.proofs.Runs.{pieces}
-use Rattle.edges.proofs.Blocks.{in-first, end-next, end-last}
+use Rattle.marks.proofs.Numbers.{end-next, end-last}
+use Rattle.edges.specs.Edge.{indexed, ruled, labelAt, Roomy, Across}
 use Rattle.edges.proofs.Marked.{head-left, head-in, axis-in, row-two}
 
 -- where an index begins
@@ -40,7 +41,7 @@ module _ (v : View) (w n a : ℕ) (cx xs : List ℕ) (d : Across v w n a cx xs) 
   unfolding M.canvasWidth
   last-end j l k =
       let e : j + 1 ≡ v .columns = omega (arith, d .columns-are) in
-      rw e (omega (arith, d .wide, left-total length boxes v (v .columns)))
+      rw e (omega (arith, d .wide, offset-total length v (v .columns)))
 
   end-is : (j : ℕ) → j < n
       → (endAt xs n w j ≤ columnOffset length v j + width length v j) × (endAt xs n w j ≤ w) × (columnOffset length v j + width length v j ≤ endAt xs n w j + 1)
@@ -98,14 +99,14 @@ module _ (v : View) (w n a : ℕ) (cx xs : List ℕ) (d : Across v w n a cx xs) 
             rw z (alike-split f m (columnOffset length v j) (columnOffset length v (j + 1)) w (omega arith) (omega arith)))
         | no k ↦
             (let z = end-last xs n w j (omega arith) in
-            rw (z, alike-none f m (columnOffset length v (j + 1)) w (omega (arith, last-end j l (omega arith)))) (sym (and-yes (alike f m (columnOffset length v j) w))))
+            rw (z, alike-none f m (columnOffset length v (j + 1)) w (omega (arith, last-end j l (omega arith)))) (sym (and-true (alike f m (columnOffset length v j) w))))
       ])
 
   pub column-last : (f : ℕ → ℕ) (j : ℕ) → j ≡ n → alike f (λ x. markAt length boxes v x 0) (columnOffset length v j) w ≡ true
   unfolding M.canvasWidth
   column-last f j e =
       let z : j ≡ v .columns = e ∙ d .columns-are in
-      rw z (alike-none f (λ x. markAt length boxes v x 0) (columnOffset length v (v .columns)) w (omega (arith, d .wide, left-total length boxes v (v .columns))))
+      rw z (alike-none f (λ x. markAt length boxes v x 0) (columnOffset length v (v .columns)) w (omega (arith, d .wide, offset-total length v (v .columns))))
 
   -- rows 0 to 2 of cells that lie row by row
   pub heads : (cells : List ℕ)

@@ -10,7 +10,7 @@ use borrow.Author.Tests.{eq-eqb, ne-eqb, le-leb, lt-leb, lt-ltb, le-ltb}
 use Rattle.rules.specs.Base.{pick}
 use Rattle.rules.specs.Lines.{digits}
 use Rattle.marks.specs.Alike.{alike}
-use Rattle.marks.proofs.Alike.{alike-first, alike-split, alike-same}
+use Rattle.marks.proofs.Alike.{alike-first, alike-same, pieces}
 use Rattle.marks.proofs.Points.{getD-any}
 use Rattle.edges.specs.Edge.{indexed, ruled}
 
@@ -59,12 +59,6 @@ module _ (f : ℕ → ℕ) (n at k m : ℕ) (h : k < length (digits n)) (e : m �
   digit-same q =
       let z : at + (k + 1) ≡ at + k + 1 = omega arith in
       rw z (first-same f (indexed n at) (at + k) (at + length (digits n)) m (omega arith) (index-digit n at k h ∙ sym e) q)
-
--- two pieces: g is g′ on the first and g″ on the second
-pub pieces : (f g g′ g″ : ℕ → ℕ) (a m b : ℕ) → a ≤ m → m ≤ b → ((x : ℕ) → a ≤ x → x < m → g x ≡ g′ x) → ((x : ℕ) → m ≤ x → x < b → g x ≡ g″ x)
-    → alike f g a b ≡ alike f g′ a m && alike f g″ m b
-pieces f g g′ g″ a m b h k p q =
-    alike-split f g a m b h k ∙ rw (alike-same f g f g′ a m (λ x l r. refl) p, alike-same f g f g″ m b (λ x l r. refl) q)
 
 -- an index in a run: spaces, its digits, spaces
 pub label : (f : ℕ → ℕ) (n at a b : ℕ) → a ≤ at → at + length (digits n) ≤ b

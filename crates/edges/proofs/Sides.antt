@@ -1,7 +1,7 @@
 -- What is left of the columns, row by row: beside a row and the gap under it stands `besideRow` of its numbers, and nothing is left below the last.
 use mathlib.Core.Path.{_≡_, refl, ap, sym, _∙_}
 use mathlib.Core.List.{List}
-use mathlib.Core.Bool.{true, _&&_}
+use mathlib.Core.Bool.{true, _&&_, and-true}
 use Prim.Native.Nat.{ℕ, suc, _+_, _-_, _≤_, _<_}
 use native.Mathlib.Numerals.{add-one}
 use native.Mathlib.Decide.{decLe}
@@ -12,13 +12,15 @@ use Rattle.rules.specs.Levels.{View}
 use Rattle.rules.specs.Measures.{height, rowOffset, canvasHeight}
 use Rattle.rules.specs.Drawing.{boxes}
 use Rattle.rules.proofs.Digits.{digits-grow}
+use Rattle.rules.proofs.Columns.{row-offset-total}
 use Rattle.marks.specs.Alike.{alikeIn}
 use Rattle.marks.specs.Whole.{markAt}
-use Rattle.marks.proofs.Alike.{and-yes, in-split, in-none, in-same}
+use Rattle.marks.specs.Numbers.{endAt}
+use Rattle.marks.proofs.Alike.{in-split, in-none, in-same}
 use Rattle.marks.proofs.Places.{row, top-suc}
-use Rattle.marks.proofs.Reading.{top-total, band-high, wide-low}
-use Rattle.edges.specs.Edge.{besideRow, endAt, Beside, Down}
-use Rattle.edges.proofs.Blocks.{end-next, end-last}
+use Rattle.marks.proofs.Reading.{band-high, wide-low}
+use Rattle.marks.proofs.Numbers.{end-next, end-last}
+use Rattle.edges.specs.Edge.{besideRow, Beside, Down}
 use Rattle.edges.proofs.Marked.{side-in}
 
 module _ (v : View) (w h n a : ℕ) (cy ys : List ℕ) (d : Down v w h n a cy ys) where
@@ -27,7 +29,7 @@ module _ (v : View) (w h n a : ℕ) (cy ys : List ℕ) (d : Down v w h n a cy ys
   unfolding M.canvasHeight
   last-end i l k =
       let e : i + 1 ≡ v .rows = omega (arith, d .rows-are) in
-      rw e (omega (arith, d .high, top-total length boxes v (v .rows)))
+      rw e (omega (arith, d .high, row-offset-total v (v .rows)))
 
   end-is : (i : ℕ) → i < n → (endAt ys n h i ≤ rowOffset v i + height v i + 3) × (endAt ys n h i ≤ h) × (rowOffset v i + height v i ≤ endAt ys n h i)
   end-is i l =
@@ -77,11 +79,11 @@ module _ (v : View) (w h n a : ℕ) (cy ys : List ℕ) (d : Down v w h n a cy ys
         | no k ↦
             (let z = end-last ys n h i (omega arith) in
             rw (z, in-none f (markAt length boxes v) 0 (a + 2) (rowOffset v (i + 1)) h (omega (arith, last-end i l (omega arith))))
-            (sym (and-yes (alikeIn f (markAt length boxes v) 0 (a + 2) (rowOffset v i) h))))
+            (sym (and-true (alikeIn f (markAt length boxes v) 0 (a + 2) (rowOffset v i) h))))
       ])
 
   pub side-last : (f : ℕ → ℕ → ℕ) (b i : ℕ) → i ≡ n → alikeIn f (markAt length boxes v) 0 b (rowOffset v i) h ≡ true
   unfolding M.canvasHeight
   side-last f b i e =
       let z : i ≡ v .rows = e ∙ d .rows-are in
-      rw z (in-none f (markAt length boxes v) 0 b (rowOffset v (v .rows)) h (omega (arith, d .high, top-total length boxes v (v .rows))))
+      rw z (in-none f (markAt length boxes v) 0 b (rowOffset v (v .rows)) h (omega (arith, d .high, row-offset-total v (v .rows))))

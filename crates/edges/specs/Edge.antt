@@ -10,6 +10,7 @@ use Rattle.rules.specs.Lines.{digits}
 use Rattle.rules.specs.Levels.{View}
 use Rattle.rules.specs.Measures.{rowOffset, columnOffset, canvasWidth, canvasHeight}
 use Rattle.marks.proofs.Places.{Proper}
+use Rattle.marks.specs.Numbers.{endAt}
 
 -- the index n, which begins at x = at, and spaces
 unfoldable pub indexed : ℕ → ℕ → ℕ → ℕ
@@ -30,10 +31,6 @@ indexSide a i x = ruled (indexed i (a - 1 - length (digits i))) a 0x2502 32 x
 -- left of the columns, beside row i with the centre cy
 unfoldable pub besideRow : ℕ → ℕ → ℕ → ℕ → ℕ → ℕ
 besideRow a i cy x y = pick (eqb y cy) (indexSide a i x) (plainSide a x)
-
--- where piece k of n ends: where the next one begins, the last one at `to`
-unfoldable pub endAt : List ℕ → ℕ → ℕ → ℕ → ℕ
-endAt starts n to k = pick (ltb (k + 1) n) (getD starts (k + 1) 0) to
 
 -- where the index of column j begins, of the centres cx
 unfoldable pub labelAt : List ℕ → ℕ → ℕ

@@ -12,7 +12,7 @@ use Rattle.rules.specs.Base.{pick, every}
 use Rattle.rules.proofs.Candidate.{from}
 use Rattle.rules.specs.Drawing.{boxes}
 use Rattle.marks.specs.Alike.{alike}
-use Rattle.marks.proofs.Alike.{alike-none, alike-first, alike-split, alike-one, alike-same, alike-if}
+use Rattle.marks.proofs.Alike.{alike-first, alike-split, alike-one, alike-same, alike-if}
 use Rattle.field.specs.declared.shape.Wire.{Wire}
 use Rattle.field.specs.declared.shape.Edge.{Edge}
 use Rattle.field.specs.declared.shape.Span.{Span}
@@ -21,9 +21,6 @@ use Rattle.field.specs.Rows.{wireMark, edgeMark, textMark}
 
 -- ---- a run of one mark, cell by cell
 module _ (f g : ℕ → ℕ) where
-  pub run-end : (k e : ℕ) → e ≤ k → alike f g k e ≡ true
-  run-end k e h = alike-none f g k e h
-
   pub run-past : (k e : ℕ) → k < e → f k ≡ g k → alike f g k e ≡ alike f g (k + 1) e
   run-past k e h s =
       let n : k + 1 ≡ suc k = omega arith in

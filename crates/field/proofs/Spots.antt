@@ -1,6 +1,6 @@
 -- What stands at a spot, row by row: the marks of its rows are those of the shapes.
 use mathlib.Core.Path.{_≡_, refl, sym, _∙_}
-use mathlib.Core.Bool.{Bool, true, false, _&&_, _||_}
+use mathlib.Core.Bool.{Bool, true, false, _&&_, _||_, and-true, and-false}
 use Prim.Native.Nat.{ℕ, suc, _+_, _≤_, _<_}
 use native.Mathlib.Omega.{arith}
 use native.Mathlib.Decide.{ℕ-discrete, decLe}
@@ -8,19 +8,14 @@ use lib.Dec.{eqb, ltb, leb}
 use borrow.Author.Tests.{lt-ltb, le-ltb, eq-eqb, ne-eqb, le-leb, lt-leb, eqb-true}
 use Rattle.rules.specs.Base.{pick}
 use Rattle.rules.specs.Drawing.{boxes}
-use Rattle.rules.proofs.CharsBack.{both}
+use Rattle.rules.proofs.Tests.{both}
 use Rattle.marks.specs.Joint.{bendMark, footMark, barMark, rootMark}
 use Rattle.marks.specs.Spot.{Spot, ownMark, cellMark, spotMark}
-use Rattle.marks.proofs.Alike.{and-yes}
 use Rattle.field.specs.declared.shape.Wire.{Wire}
 use Rattle.field.specs.declared.shape.Edge.{Edge}
 use Rattle.field.specs.Rows.{wireMark, edgeMark, textMark}
 use Rattle.field.specs.Shapes.{straight, footWire, rootWire, barWire, bendWire, topEdge, bottomEdge}
 use Rattle.field.proofs.Runs.{wire-before, wire-line, wire-next, wire-after, edge-out-left, edge-left, edge-inner, edge-line, edge-next, edge-tail, edge-right, edge-out-right, text-out-left, text-left, text-first, text-own, text-last, text-right, text-out-right}
-
-and-no : (b : Bool) → (b && false) ≡ false
-and-no true = refl
-and-no false = refl
 
 -- a row of lines by its four places
 pub wire-is : (w : Wire) (l : ℕ) (h : ℕ → ℕ) → ((x : ℕ) → x < l → h x ≡ w .before) → h l ≡ w .line → h (l + 1) ≡ w .next
@@ -126,24 +121,24 @@ module _ (child on up : Bool) (l bend X Y R B own : ℕ) (inner : X < l) (outer 
   head-at : (x y : ℕ) → y < Y → spotMark boxes full own x y ≡ pick (up && eqb x l) (boxes .│) 0x20
   unfolding spotMark cellMark ownMark pick
   head-at x y h =
-      simp (lt-ltb y bend (omega arith), le-leb y Y (omega arith), ne-eqb y Y (λ e. absurd (omega arith)), lt-leb Y y h, and-no)
+      simp (lt-ltb y bend (omega arith), le-leb y Y (omega arith), ne-eqb y Y (λ e. absurd (omega arith)), lt-leb Y y h, and-false)
 
   pub head-row : (x y : ℕ) → y < Y → spotMark boxes full own x y ≡ wireMark (straight up) l x
   unfolding pick
   head-row x y h =
       head-at x y h
       ∙ wire-is (straight up) l (λ x. pick (up && eqb x l) (boxes .│) 0x20)
-      (λ x p. simp (ne-eqb x l (λ e. absurd (omega arith)), and-no))
-      (simp (eq-eqb l l refl, and-yes))
-      (simp (ne-eqb (l + 1) l (λ e. absurd (omega arith)), and-no))
-      (λ x p. simp (ne-eqb x l (λ e. absurd (omega arith)), and-no))
+      (λ x p. simp (ne-eqb x l (λ e. absurd (omega arith)), and-false))
+      (simp (eq-eqb l l refl, and-true))
+      (simp (ne-eqb (l + 1) l (λ e. absurd (omega arith)), and-false))
+      (λ x p. simp (ne-eqb x l (λ e. absurd (omega arith)), and-false))
       x
 
   -- its top border
   top-at : (x : ℕ) → spotMark boxes full own x Y ≡ pick (up && eqb x l) (boxes .┴) (border X l R inner outer (boxes .╭) (boxes .╮) x)
   unfolding spotMark cellMark ownMark border pick
   top-at x =
-      simp (lt-ltb Y bend (omega arith), le-leb Y Y (omega arith), le-leb Y B (omega arith), eq-eqb Y Y refl, and-yes)
+      simp (lt-ltb Y bend (omega arith), le-leb Y Y (omega arith), le-leb Y B (omega arith), eq-eqb Y Y refl, and-true)
 
   pub top-row : (x : ℕ) → spotMark boxes full own x Y ≡ edgeMark (topEdge up) X l R x
   unfolding pick
@@ -151,14 +146,14 @@ module _ (child on up : Bool) (l bend X Y R B own : ℕ) (inner : X < l) (outer 
       let m = border X l R inner outer (boxes .╭) (boxes .╮) in
       top-at x
       ∙ edge-is (topEdge up) X l R inner outer (λ x. pick (up && eqb x l) (boxes .┴) (m x))
-      (λ x p. simp (ne-eqb x l (λ e. absurd (omega arith)), and-no) (border-before X l R inner outer (boxes .╭) (boxes .╮) x p))
-      (simp (ne-eqb X l (λ e. absurd (omega arith)), and-no) (border-left X l R inner outer (boxes .╭) (boxes .╮)))
-      (λ x p q. simp (ne-eqb x l (λ e. absurd (omega arith)), and-no) (border-in X l R inner outer (boxes .╭) (boxes .╮) x p (omega arith)))
-      (simp (eq-eqb l l refl, and-yes, border-in X l R inner outer (boxes .╭) (boxes .╮) l inner (omega arith)))
-      (simp (ne-eqb (l + 1) l (λ e. absurd (omega arith)), and-no) (border-in X l R inner outer (boxes .╭) (boxes .╮) (l + 1) (omega arith) outer))
-      (λ x p q. simp (ne-eqb x l (λ e. absurd (omega arith)), and-no) (border-in X l R inner outer (boxes .╭) (boxes .╮) x (omega arith) q))
-      (simp (ne-eqb R l (λ e. absurd (omega arith)), and-no) (border-right X l R inner outer (boxes .╭) (boxes .╮)))
-      (λ x p. simp (ne-eqb x l (λ e. absurd (omega arith)), and-no) (border-after X l R inner outer (boxes .╭) (boxes .╮) x p))
+      (λ x p. simp (ne-eqb x l (λ e. absurd (omega arith)), and-false) (border-before X l R inner outer (boxes .╭) (boxes .╮) x p))
+      (simp (ne-eqb X l (λ e. absurd (omega arith)), and-false) (border-left X l R inner outer (boxes .╭) (boxes .╮)))
+      (λ x p q. simp (ne-eqb x l (λ e. absurd (omega arith)), and-false) (border-in X l R inner outer (boxes .╭) (boxes .╮) x p (omega arith)))
+      (simp (eq-eqb l l refl, and-true, border-in X l R inner outer (boxes .╭) (boxes .╮) l inner (omega arith)))
+      (simp (ne-eqb (l + 1) l (λ e. absurd (omega arith)), and-false) (border-in X l R inner outer (boxes .╭) (boxes .╮) (l + 1) (omega arith) outer))
+      (λ x p q. simp (ne-eqb x l (λ e. absurd (omega arith)), and-false) (border-in X l R inner outer (boxes .╭) (boxes .╮) x (omega arith) q))
+      (simp (ne-eqb R l (λ e. absurd (omega arith)), and-false) (border-right X l R inner outer (boxes .╭) (boxes .╮)))
+      (λ x p. simp (ne-eqb x l (λ e. absurd (omega arith)), and-false) (border-after X l R inner outer (boxes .╭) (boxes .╮) x p))
       x
 
   -- its bottom border
@@ -177,7 +172,7 @@ module _ (child on up : Bool) (l bend X Y R B own : ℕ) (inner : X < l) (outer 
         le-leb Y B (omega arith),
         ne-eqb B Y (λ e. absurd (omega arith)),
         eq-eqb B B refl,
-        and-yes,
+        and-true,
       )
 
   pub bottom-row : (x : ℕ) → spotMark boxes full own x B ≡ edgeMark (bottomEdge child on) X l R x
@@ -226,7 +221,7 @@ module _ (child on up : Bool) (l bend X Y R B own : ℕ) (inner : X < l) (outer 
         le-leb y B (omega arith),
         ne-eqb y Y (λ e. absurd (omega arith)),
         ne-eqb y B (λ e. absurd (omega arith)),
-        and-yes,
+        and-true,
       )
 
   text-of : (x : ℕ) → textAt x ≡ textMark X R own x
@@ -269,7 +264,7 @@ module _ (child on up : Bool) (l bend X Y R B own : ℕ) (inner : X < l) (outer 
                                       ne-eqb x X q,
                                       ne-eqb x R (λ e. absurd (omega arith)),
                                       le-ltb (x + 1) R (omega arith),
-                                      and-no,
+                                      and-false,
                                     )
                                     (sym (text-last X R (omega arith) own x t))
                                 | no t ↦
@@ -306,7 +301,7 @@ module _ (child on up : Bool) (l bend X Y R B own : ℕ) where
         le-leb B y (omega arith),
         lt-leb y B m,
         ne-eqb y B (λ e. absurd (omega arith)),
-        and-no,
+        and-false,
       )
 
   -- above the bend
@@ -360,8 +355,8 @@ module _ (child on up : Bool) (l bend X Y R B own : ℕ) where
   below-row cell x y h =
       below-at cell x y h
       ∙ wire-is (straight child) l (λ x. pick (child && eqb x l) (boxes .│) 0x20)
-      (λ x p. simp (ne-eqb x l (λ e. absurd (omega arith)), and-no))
-      (simp (eq-eqb l l refl, and-yes))
-      (simp (ne-eqb (l + 1) l (λ e. absurd (omega arith)), and-no))
-      (λ x p. simp (ne-eqb x l (λ e. absurd (omega arith)), and-no))
+      (λ x p. simp (ne-eqb x l (λ e. absurd (omega arith)), and-false))
+      (simp (eq-eqb l l refl, and-true))
+      (simp (ne-eqb (l + 1) l (λ e. absurd (omega arith)), and-false))
+      (λ x p. simp (ne-eqb x l (λ e. absurd (omega arith)), and-false))
       x

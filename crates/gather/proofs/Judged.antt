@@ -3,7 +3,6 @@ use mathlib.Core.Path.{_≡_, ap, sym, _∙_}
 use mathlib.Core.List.{List, [], _∷_, _++_}
 use mathlib.Core.Bool.{Bool, true, false, _||_}
 use Prim.Native.Nat.{ℕ, _+_, _*_, _-_, _/_, _≤_, _<_}
-use native.Mathlib.Decide.{decLe}
 use native.Mathlib.Omega.{arith}
 use lib.Dec.{eqb}
 use lib.ListN.{length, length-append}
@@ -18,7 +17,7 @@ use Rattle.rules.proofs.Candidate.{joined, marked, outside, bandOf}
 use Rattle.sight.specs.Seen.{seen, boxLines, leftSide, rightSide}
 use Rattle.sight.specs.Labelled.{Labelled}
 use Rattle.sight.specs.Plan.{planSeen, cellsSeen}
-use Rattle.sight.proofs.Labels.{cell-some, label-below, label-lines, label-longest}
+use Rattle.sight.proofs.Labels.{cell-some, label-here, label-below, label-lines, label-longest}
 use Rattle.gather.specs.Gathered.{Misfit, many, untitled, long, beside, loose, cellSeen, middleOf, topOf}
 use Rattle.gather.specs.Partly.{cellHere, cellsBefore, Fitting}
 use Rattle.gather.specs.Title.{linesFrom}
@@ -59,12 +58,7 @@ module _
       (top ≡ topOf cells w h seenCell) × (at ≡ leftSide (seen cells w h) (middleOf cells w h seenCell) top + 2)
       × (t ≡ rightSide (seen cells w h) w (middleOf cells w h seenCell) top - leftSide (seen cells w h) (middleOf cells w h seenCell) top - 3)
       × (lines ≡ boxLines (seen cells w h) (middleOf cells w h seenCell - 2) (outside (seen cells w h) w h .cy i) top)
-  top-here =
-      l .here
-      elim (decLe (outside (seen cells w h) w h .cy i) (topOf cells w h seenCell)) [
-        | yes k ↦ absurd (omega (arith, l .gone k .0))
-        | no k ↦ omega arith
-      ]
+  top-here = l .here (label-here _ w _ _ _ l some)
 
   pub lines-here : lineCount seenCell ≡ lines
   lines-here = label-lines (seen cells w h) open-marks at (top + 1) t lines i j some

@@ -12,7 +12,8 @@ use Rattle.rules.specs.Graph.{Form}
 use Rattle.levels.proofs.Plans.{rows-bytes}
 use Rattle.graphs.specs.Entries.{lead, rowEntries, entriesIn}
 use Rattle.rules.proofs.Lists.{concat-append}
-use Rattle.graphs.proofs.Concats.{concat-each, each-fewer}
+use Rattle.rules.proofs.Text.{each-rises}
+use Rattle.graphs.proofs.Concats.{concat-each}
 
 pub no-rows : (form : Form) (p : List Node) → concat lead (entriesIn form p 0) ≡ []
 unfolding entriesIn each concat
@@ -26,7 +27,7 @@ one-row-more form p i = rw (add-one i) (concat-append lead (each (rowEntries for
 fewer-rows : (form : Form) (p : List Node) (m n : ℕ) → m ≤ n → length (concat lead (entriesIn form p m)) ≤ length (concat lead (entriesIn form p n))
 unfolding entriesIn
 fewer-rows form p m n h =
-    rw (concat-each lead (rowEntries form p) m, concat-each lead (rowEntries form p) n) (each-fewer (λ i. concat lead (rowEntries form p i)) m n h)
+    rw (concat-each lead (rowEntries form p) m, concat-each lead (rowEntries form p) n) (each-rises (λ i. concat lead (rowEntries form p i)) m n h)
 
 pub row-fits : (form : Form) (p : List Node) (i n : ℕ) → i < n
     → length (concat lead (entriesIn form p i)) + length (concat lead (rowEntries form p i)) ≤ length (concat lead (entriesIn form p n))

@@ -14,7 +14,7 @@ use Rattle.rules.specs.Plan.{Node, count, planOf, nodeAt, depthAt}
 use Rattle.rules.specs.Levels.{Cell, columnAt, cellAt, shown, view, inRow, nextColumn, children}
 use Rattle.rules.specs.Graph.{escaped, name, node, edge, entries}
 use Rattle.rules.proofs.Digits.{digits-few}
-use Rattle.rules.proofs.Lists.{length-plan}
+use Rattle.rules.proofs.Lists.{length-plan, concat-map}
 use Rattle.rules.proofs.Keeps.{kept-mem}
 use Rattle.levels.specs.Accepted.{Accepted}
 use Rattle.levels.proofs.Plans.{node-plan, depth-whole, deepest, deepest-zero, deepest-suc, rows-deepest}
@@ -23,7 +23,7 @@ use Rattle.graphs.specs.Forms.{formOf}
 use Rattle.graphs.specs.Entries.{lead}
 use Rattle.graphs.proofs.Names.{length-name}
 use Rattle.graphs.proofs.Entries.{length-node, length-edge}
-use Rattle.graphs.proofs.Concats.{concat-most, concat-map, concat-concat, concat-each, each-most, length-keep, mem-reverse, mem-each}
+use Rattle.graphs.proofs.Concats.{concat-most, concat-concat, concat-each, each-most, length-keep, mem-reverse, mem-each}
 use Rattle.rules.proofs.Bounds.{column-le}
 
 -- a byte of a title as two at most, one between a name's numbers at most

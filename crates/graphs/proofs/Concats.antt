@@ -1,10 +1,10 @@
 -- Laws of `concat` and `each`: over joined, mapped and repeated lists, and how long they are at most. Each by induction on the list.
 use mathlib.Core.Path.{_≡_, refl, sym, _∙_}
-use mathlib.Core.List.{List, [], _∷_, _++_, map, reverse, reverseAux, append-assoc, List·Memᴰ, List·Memᴰ·head, List·Memᴰ·tail, List·Memᴰ·cases-cons, List·Memᴰ·not-nil, List·Memᴰ·append-cases}
+use mathlib.Core.List.{List, [], _∷_, _++_, reverse, reverseAux, append-assoc, List·Memᴰ, List·Memᴰ·head, List·Memᴰ·tail, List·Memᴰ·cases-cons, List·Memᴰ·not-nil, List·Memᴰ·append-cases}
 use mathlib.Core.Bool.{Bool, true, false}
 use mathlib.Core.Logic.{_⊎_, inl, inr, ⊎-elim}
 use Prim.Native.Nat.{ℕ, suc, zero, _+_, _*_, _≤_, _<_}
-use native.Mathlib.Nat.{mul-suc, mul-zero, eq-or-lt-of-le}
+use native.Mathlib.Nat.{mul-suc, mul-zero}
 use native.Mathlib.Omega.{arith}
 use lib.ListN.{length, length-append}
 use Rattle.rules.specs.Base.{pick, keep, concat, each}
@@ -30,11 +30,6 @@ module _ {A B : Type 0} where
         mul-suc b (length l),
       )
 
-  pub concat-map : {C : Type 0} (f : A → List B) (g : C → A) (l : List C) → concat f (map g l) ≡ concat (λ c. f (g c)) l
-  unfolding concat
-  concat-map f g [] = refl
-  concat-map f g (c ∷ l) = rw (concat-map f g l)
-
   pub concat-concat : {C : Type 0} (f : A → List B) (g : C → List A) (l : List C) → concat f (concat g l) ≡ concat (λ c. concat f (g c)) l
   unfolding concat
   concat-concat f g [] = refl
@@ -46,14 +41,6 @@ module _ {A : Type 0} where
   each-most f b zero h = omega (arith, mul-zero b)
   each-most f b (suc n) h =
       omega (arith, length-append (each f n) (f n), h n (omega arith), each-most f b n (λ k l. h k (omega arith)), mul-suc b n)
-
-  -- fewer rows are no longer
-  pub each-fewer : (f : ℕ → List A) (m n : ℕ) → m ≤ n → length (each f m) ≤ length (each f n)
-  unfolding each
-  each-fewer f m zero h = (let e : m ≡ 0 = omega arith in rw e (omega arith))
-  each-fewer f m (suc n) h =
-      ⊎-elim (λ (e : m ≡ suc n). rw e (omega arith))
-      (λ (l : m < suc n). omega (arith, length-append (each f n) (f n), each-fewer f m n (omega arith))) (eq-or-lt-of-le h)
 
   shorter : (b : Bool) (a : A) (k l : List A) → length k ≤ length l → length (pick b (a ∷ k) k) ≤ length (a ∷ l)
   unfolding pick

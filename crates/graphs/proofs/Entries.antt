@@ -18,7 +18,6 @@ use Rattle.levels.specs.Between.{cellOf}
 use Rattle.rules.proofs.Lists.{depth-plan}
 use Rattle.graphs.specs.Entries.{lead, spotIn, nodeIn, Ready}
 use Rattle.graphs.specs.Forms.{spot}
-use Rattle.levels.proofs.Empties.{one-at-most}
 use Rattle.rules.proofs.Bounds.{column-le}
 
 pub lead-parts : (e : List ℕ) → lead e ≡ (10 ∷ 32 ∷ 32 ∷ 32 ∷ 32 ∷ []) ++ e

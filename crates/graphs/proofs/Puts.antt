@@ -2,14 +2,14 @@
 -- one more piece leaves less to put, and with nothing left W is put. Each holds because `sets` puts a list as it puts its parts in turn.
 use mathlib.Core.Path.{_≡_, refl, ap, sym, _∙_}
 use mathlib.Core.List.{List, [], _∷_, _++_}
-use Prim.Native.Nat.{ℕ, suc, zero, _+_, _≤_, _<_}
+use Prim.Native.Nat.{ℕ, zero, _+_, _≤_, _<_}
 use native.Mathlib.Nat.{add-zero}
 use native.Mathlib.Numerals.{add-one}
 use native.Mathlib.Omega.{arith}
 use lib.ListN.{length, set, getD, drop, length-append, drop-of-length-le}
-use lib.Seq.{sets, length-sets, drop-cons, set-out}
+use lib.Seq.{sets, length-sets, drop-cons}
 use Rattle.rules.specs.Base.{concat}
-use Rattle.rules.proofs.Lists.{sets-append}
+use Rattle.rules.proofs.Lists.{sets-append, sets-out}
 use Rattle.graphs.specs.Put.{Put}
 
 -- nothing is put
@@ -22,11 +22,7 @@ put-length {w} {at} {l} p = ap length (p .holds) ∙ length-sets l at w
 
 -- nothing has room
 pub dropped : (w : List ℕ) (at : ℕ) (l : List ℕ) → length l ≤ at → Put w at l l (at + length w)
-dropped w at l h = record { place = refl; holds = sym (past w at l h) }
-  where
-    past : (w : List ℕ) (at : ℕ) (l : List ℕ) → length l ≤ at → sets l at w ≡ l
-    past [] at l h = refl
-    past (x ∷ w) at l h = rw (set-out l at x h) (past w (suc at) l (omega arith))
+dropped w at l h = record { place = refl; holds = sym (sets-out l at w h) }
 
 -- a piece and the next
 pub then : {a b : List ℕ} {at : ℕ} {l m n : List ℕ} {p q : ℕ} → Put a at l m p → Put b p m n q → Put (a ++ b) at l n q

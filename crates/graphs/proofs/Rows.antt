@@ -17,7 +17,6 @@ use Rattle.rules.proofs.Lists.{depth-plan}
 use Rattle.levels.specs.Accepted.{Accepted}
 use Rattle.levels.specs.Cells.{cellIn, nextCell}
 use Rattle.levels.specs.Between.{cellOf, cellsBetween}
-use Rattle.levels.proofs.Tests.{and-true}
 use Rattle.levels.proofs.Walks.{next-from, next-most, next-holds, next-before}
 use Rattle.levels.proofs.Between.{between-nil, between-snoc, row-append, row-nil, row-view, row-split, row-none, row-first, cell-row}
 use Rattle.levels.proofs.Cells.{children-between, cell-depth}

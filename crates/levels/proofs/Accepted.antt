@@ -18,9 +18,10 @@ use Rattle.rules.specs.Numbers.{number, ragged, many, noNode, badDepth, badTitl
 use Rattle.rules.specs.Answers.{done}
 use Rattle.rules.specs.declared.Answer.{Answer}
 use Rattle.rules.proofs.Firsts.{first-before}
+use Rattle.rules.proofs.Tests.{neither, both}
 use Rattle.levels.specs.Accepted.{checked, Accepted}
 use Rattle.levels.proofs.Plans.{node-plan, depth-whole}
-use Rattle.levels.proofs.Tests.{or-false, and-true, right-title}
+use Rattle.levels.proofs.Tests.{right-title}
 
 -- the depth rule in numbers
 rule-first : (p : List Node) → depthRule 1 p 0 ≡ true → depthAt p 0 ≡ 0
@@ -30,14 +31,14 @@ rule-first p e = eqb-true (depthAt p 0) 0 e
 rule-later : (p : List Node) (k : ℕ) → depthRule 1 p (suc k) ≡ true → (1 ≤ depthAt p (suc k)) × (depthAt p (suc k) ≤ depthAt p k + 1)
 unfolding depthRule
 rule-later p k e =
-    let b = and-true (leb 1 (depthAt p (suc k))) (leb (depthAt p (suc k)) (depthAt p k + 1)) e in
+    let b = both (leb 1 (depthAt p (suc k))) (leb (depthAt p (suc k)) (depthAt p k + 1)) e in
     (leb-true 1 (depthAt p (suc k)) (b .0), leb-true (depthAt p (suc k)) (depthAt p k + 1) (b .1))
 
 module _ {T B : List ℕ} (a : Accepted T B) where
   good-depth : (k : ℕ) → k < count T → (depthRule 1 (planOf T B) k ≡ true) × (depthAt (planOf T B) k < 32)
   unfolding badDepth
   good-depth k h =
-      let b = or-false (not (depthRule 1 (planOf T B) k)) (leb 32 (depthAt (planOf T B) k)) (a .depths k h) in
+      let b = neither (not (depthRule 1 (planOf T B) k)) (leb 32 (depthAt (planOf T B) k)) (a .depths k h) in
       (not-false (depthRule 1 (planOf T B) k) (b .0), leb-false 32 (depthAt (planOf T B) k) (b .1))
 
   -- depths

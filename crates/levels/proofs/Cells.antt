@@ -1,7 +1,7 @@
 -- The drawn children of a cell are the cells one row deeper of the nodes after it and before the next cell of its row; with no empty title they are
 -- the true children. Columns never fall along the table, and stay only while depths rise, so a range of columns is a range of nodes.
 use mathlib.Core.Path.{_≡_, refl, sym, ap, _∙_}
-use mathlib.Core.List.{List, [], _∷_, _++_, append-nil, List·Memᴰ, List·Memᴰ·head, List·Memᴰ·tail, List·Memᴰ·cases-cons}
+use mathlib.Core.List.{List, [], _∷_, _++_, append-nil, List·Memᴰ, List·Memᴰ·cases-cons}
 use mathlib.Core.Bool.{Bool, true, false, not, _&&_, _||_, false≢true}
 use mathlib.Core.Logic.{⊎-elim}
 use Prim.Native.Nat.{ℕ, suc, _+_, _-_, _≤_, _<_}
@@ -13,14 +13,14 @@ use borrow.Author.Tests.{lt-ltb, le-ltb, le-leb, lt-leb, eq-eqb, ne-eqb, eqb-tru
 use Rattle.rules.specs.Base.{keep, any, total}
 use Rattle.rules.specs.Plan.{Node, count, depthIn, sizeIn, planOf, depthAt}
 use Rattle.rules.specs.Levels.{Cell, leaf, columnAt, columnsOf, view, inRow, nextColumn, children}
-use Rattle.rules.proofs.Lists.{first-none, first-hit, length-plan, depth-plan}
+use Rattle.rules.proofs.Lists.{first-none, first-hit, length-plan, depth-plan, any-none}
 use Rattle.rules.proofs.Columns.{column-next, leaf-no, columns-rise, column-stays}
 use Rattle.rules.proofs.Keeps.{keep-yes, keep-no, keep-append, keep-none, keep-all}
+use Rattle.rules.proofs.Tests.{both}
 use Rattle.levels.specs.Accepted.{Accepted}
 use Rattle.levels.specs.Cells.{cellIn, nextCell}
 use Rattle.levels.specs.Between.{cellOf, cellsBetween}
 use Rattle.levels.proofs.Plans.{depth-past}
-use Rattle.levels.proofs.Tests.{and-true}
 use Rattle.levels.proofs.Walks.{next-from, next-most, next-holds, next-before}
 use Rattle.levels.proofs.Between.{row-split, row-first, row-view, row-of, row-next, row-end}
 
@@ -54,13 +54,8 @@ and-false-right : (s t : Bool) → t ≡ false → (s && t) ≡ false
 and-false-right true t e = e
 and-false-right false t e = refl
 
-both : (s t : Bool) → s ≡ true → t ≡ true → (s && t) ≡ true
-both s t e f = rw (e, f)
-
-any-none : {A : Type 0} (t : A → Bool) (l : List A) → ((c : A) → List·Memᴰ c l → t c ≡ false) → any t l ≡ false
-unfolding any
-any-none t [] h = refl
-any-none t (c ∷ l) h = rw (h c (List·Memᴰ·head refl)) (any-none t l (λ d m. h d (List·Memᴰ·tail m)))
+both-hold : (s t : Bool) → s ≡ true → t ≡ true → (s && t) ≡ true
+both-hold s t e f = rw (e, f)
 
 any-later : {A : Type 0} (t : A → Bool) (s : List A) (c : A) (l : List A) → t c ≡ true → any t (s ++ (c ∷ l)) ≡ true
 unfolding any
@@ -75,7 +70,7 @@ module _ {T B : List ℕ} (a : Accepted T B) where
   -- a node with a cell in row i has that depth
   pub cell-depth : (i k : ℕ) → cellIn T i k ≡ true → depthIn T k ≡ i
   unfolding cellIn
-  cell-depth i k e = eqb-true (depthIn T k) i (and-true (eqb (depthIn T k) i) (not (eqb (sizeIn T k) 0)) e .0)
+  cell-depth i k e = eqb-true (depthIn T k) i (both (eqb (depthIn T k) i) (not (eqb (sizeIn T k) 0)) e .0)
 
   pub cell-deep : (i k : ℕ) → k < count T → cellIn T i k ≡ true → depthAt (planOf T B) k ≡ i
   cell-deep i k h e = depth-plan T B k h ∙ cell-depth i k e
@@ -145,7 +140,7 @@ module _ {T B : List ℕ} (a : Accepted T B) where
           | yes g ↦
               first-hit test (columnsOf (planOf T B)) (columnAt (planOf T B) (nextCell T (count T) (k + 1) i))
               (omega (arith, columns-end, column-in (nextCell T (count T) (k + 1) i) g))
-              (both (ltb (columnAt (planOf T B) k) (columnAt (planOf T B) (nextCell T (count T) (k + 1) i)))
+              (both-hold (ltb (columnAt (planOf T B) k) (columnAt (planOf T B) (nextCell T (count T) (k + 1) i)))
               (any (λ d. eqb (d .column) (columnAt (planOf T B) (nextCell T (count T) (k + 1) i))) (inRow (view (planOf T B) .cells) i))
               (lt-ltb (columnAt (planOf T B) k) (columnAt (planOf T B) (nextCell T (count T) (k + 1) i))
               (row-rises i k (nextCell T (count T) (k + 1) i) c (holds-next g) (omega (arith, next-from T i (count T) (k + 1))) g))
@@ -204,7 +199,7 @@ module _ {T B : List ℕ} (a : Accepted T B) where
         let l = next-most T i (count T) (k + 1) (omega arith) in
         let o = row-of a (i + 1) (k + 1) (nextCell T (count T) (k + 1) i) d l m in
         ap (λ (d : Cell). inside (d .column)) (o .is)
-        ∙ both (leb (columnAt (planOf T B) k) (columnAt (planOf T B) (o .node))) (ltb (columnAt (planOf T B) (o .node)) (columnAt (planOf T B) (nextCell T (count T) (k + 1) i)))
+        ∙ both-hold (leb (columnAt (planOf T B) k) (columnAt (planOf T B) (o .node))) (ltb (columnAt (planOf T B) (o .node)) (columnAt (planOf T B) (nextCell T (count T) (k + 1) i)))
         (le-leb (columnAt (planOf T B) k) (columnAt (planOf T B) (o .node)) (columns-order (planOf T B) k (o .node) (omega (arith, o .from))))
         (lt-ltb (columnAt (planOf T B) (o .node)) (columnAt (planOf T B) (nextCell T (count T) (k + 1) i))
         (left-of i (o .node) (nextCell T (count T) (k + 1) i) (o .below) l (o .has) holds-next)))

@@ -20,11 +20,6 @@ use Rattle.levels.proofs.Accepted.{title-length}
 abbrev pub emptyAt : List ℕ → ℕ → ℕ
 emptyAt T k = pick (eqb (sizeIn T k) 0) 1 0
 
-pub one-at-most : (b : Bool) → pick b 1 0 ≤ 1
-unfolding pick
-one-at-most true = omega arith
-one-at-most false = omega arith
-
 -- how many of the first n nodes have one
 pub emptyTo : List ℕ → ℕ → ℕ
 emptyTo T n = total (emptyAt T) n

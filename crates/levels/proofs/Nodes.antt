@@ -14,11 +14,11 @@ use Rattle.rules.specs.Base.{pick, keep, concat}
 use Rattle.rules.specs.Plan.{count, depthIn, sizeIn, planOf}
 use Rattle.rules.specs.Levels.{Cell, columnAt, cellAt, view, inRow, children}
 use Rattle.rules.proofs.Keeps.{kept-mem}
+use Rattle.rules.proofs.Tests.{both}
 use Rattle.levels.specs.Accepted.{Accepted}
 use Rattle.levels.specs.Cells.{cellIn, nextCell}
 use Rattle.levels.specs.Nodes.{numbersFrom, nodesIn}
 use Rattle.levels.specs.Between.{cellOf, cellsBetween}
-use Rattle.levels.proofs.Tests.{and-true}
 use Rattle.levels.proofs.Walks.{next-from, next-most, next-holds, next-before}
 use Rattle.levels.proofs.Between.{between-nil, between-cons, row-append, row-nil, size-plan, cell-row, row-view}
 use Rattle.levels.proofs.Cells.{row-rises, children-between}
@@ -93,7 +93,7 @@ module _ {T B : List ℕ} (a : Accepted T B) where
   pub cell-there : (i k : ℕ) → k < count T → cellIn T i k ≡ true → cellAt (planOf T B) k ≡ cellOf (planOf T B) k ∷ []
   unfolding cellAt cellIn pick
   cell-there i k h c =
-      rw (size-plan a k h, not-true (eqb (sizeIn T k) 0) (and-true (eqb (depthIn T k) i) (not (eqb (sizeIn T k) 0)) c .1))
+      rw (size-plan a k h, not-true (eqb (sizeIn T k) 0) (both (eqb (depthIn T k) i) (not (eqb (sizeIn T k) 0)) c .1))
 
   -- the cells of row i of n nodes from x on are the cells of the row's nodes
   row-from : (i n x e : ℕ) → x + n ≡ e → e ≤ count T → inRow (cellsBetween (planOf T B) x e) i ≡ concat (cellAt (planOf T B)) (nodesIn T x e i)

@@ -1,7 +1,7 @@
 -- The tests of refusals 4 to 6 as the code makes them, one comparison at a time, on plain numbers.
-use mathlib.Core.Path.{_≡_, refl, sym, ap, _∙_}
+use mathlib.Core.Path.{_≡_, refl, ap, _∙_}
 use mathlib.Core.List.{List, []}
-use mathlib.Core.Bool.{Bool, true, false, not, _&&_, _||_, false≢true}
+use mathlib.Core.Bool.{Bool, true, false, not, _&&_, _||_}
 use Prim.Native.Nat.{ℕ, zero, suc, _+_, _-_, _*_, _/_, _%_, _≤_, _<_}
 use native.Mathlib.Decide.{decLe}
 use native.Mathlib.Omega.{arith}
@@ -16,15 +16,8 @@ use Rattle.rules.specs.declared.Answer.{Answer}
 use Rattle.rules.proofs.Firsts.{first-same}
 use Rattle.levels.specs.Accepted.{checked}
 use Rattle.levels.proofs.Plans.{node-plan, depth-whole, depth-bytes}
-
--- tests that are joined
-pub or-false : (a b : Bool) → (a || b) ≡ false → (a ≡ false) × (b ≡ false)
-or-false true b e = absurd (false≢true (sym e))
-or-false false b e = (refl, e)
-
-pub and-true : (a b : Bool) → (a && b) ≡ true → (a ≡ true) × (b ≡ true)
-and-true true b e = (refl, e)
-and-true false b e = absurd (false≢true e)
+use Rattle.rules.proofs.Tests.{neither}
+pub use Rattle.rules.proofs.Tests.{both as and-true}
 
 -- either test holds whatever the first is, if the second does
 or-right : (a b : Bool) → b ≡ true → (a || b) ≡ true
@@ -101,7 +94,7 @@ module _ (T B : List ℕ) (k : ℕ) where
   pub right-title : badTitle T B k ≡ false → (startIn T k + sizeIn T k ≤ length B) × (sizeIn T k ≤ 1024)
   unfolding badTitle
   right-title e =
-      let b = or-false (ltb (length B) (startIn T k + sizeIn T k)) (ltb 1024 (sizeIn T k)) e in
+      let b = neither (ltb (length B) (startIn T k + sizeIn T k)) (ltb 1024 (sizeIn T k)) e in
       (ltb-false (length B) (startIn T k + sizeIn T k) (b .0), ltb-false 1024 (sizeIn T k) (b .1))
 
 -- 6 UTF8 is asked of the title that lies in the title bytes

@@ -1,7 +1,7 @@
 -- Agreement of two drawings may be asked run by run and row by row: a run is split anywhere, and what agrees point by point agrees.
 use mathlib.Core.Path.{_≡_, refl, ap, sym, _∙_}
 use mathlib.Core.List.{List, [], _∷_, _++_}
-use mathlib.Core.Bool.{Bool, true, false, _&&_}
+use mathlib.Core.Bool.{Bool, true, false, _&&_, and-assoc, and-true}
 use Prim.Native.Nat.{ℕ, suc, zero, _+_, _-_, _≤_, _<_}
 use native.Mathlib.Nat.{not-suc-le-zero}
 use native.Mathlib.Omega.{arith}
@@ -10,17 +10,8 @@ use lib.Dec.{eqb}
 use borrow.Author.Tests.{eqb-true, eq-eqb}
 use Rattle.rules.specs.Base.{every}
 use Rattle.rules.proofs.Candidate.{from}
-use Rattle.rules.proofs.CharsBack as Chars
+use Rattle.rules.proofs.Tests.{both}
 use Rattle.marks.specs.Alike.{alike, alikeIn}
-
--- ---- tests of numbers one after another
-pub and-assoc : (a b c : Bool) → ((a && b) && c) ≡ (a && (b && c))
-and-assoc true b c = refl
-and-assoc false b c = refl
-
-pub and-yes : (b : Bool) → (b && true) ≡ b
-and-yes true = refl
-and-yes false = refl
 
 module _ (t : ℕ → Bool) where
   pub every-split : (a m n : ℕ) → every t (from a (m + n)) ≡ every t (from a m) && every t (from (a + m) n)
@@ -35,7 +26,7 @@ module _ (t : ℕ → Bool) where
   unfolding every from
   every-all a zero e k l h = absurd (omega arith)
   every-all a (suc n) e k l h =
-      let q = Chars.both (t a) (every t (from (suc a) n)) e in
+      let q = both (t a) (every t (from (suc a) n)) e in
       elim (ℕ-discrete k a) [ yes s ↦ ap t s ∙ q .0 | no s ↦ every-all (suc a) n (q .1) k (omega arith) (omega arith) ]
 
   pub every-if : (a n : ℕ) → ((k : ℕ) → a ≤ k → k < a + n → t k ≡ true) → every t (from a n) ≡ true
@@ -66,7 +57,7 @@ module _ (f g : ℕ → ℕ) where
   unfolding alike
   alike-one a b h =
       let e : b - a ≡ 1 = omega arith in
-      rw e (unfold every from in and-yes (eqb (f a) (g a)))
+      rw e (unfold every from in and-true (eqb (f a) (g a)))
 
   -- one more at the end
   pub alike-more : (a b : ℕ) → a ≤ b → alike f g a (b + 1) ≡ alike f g a b && eqb (f b) (g b)
@@ -90,6 +81,12 @@ unfolding alike
 alike-same f g f′ g′ a b p q =
     every-same (λ x. eqb (f x) (g x)) (λ x. eqb (f′ x) (g′ x)) a (b - a) (λ x l r. rw (p x l (omega arith), q x l (omega arith)))
 
+-- two pieces: g is g′ on the first and g″ on the second
+pub pieces : (f g g′ g″ : ℕ → ℕ) (a m b : ℕ) → a ≤ m → m ≤ b → ((x : ℕ) → a ≤ x → x < m → g x ≡ g′ x) → ((x : ℕ) → m ≤ x → x < b → g x ≡ g″ x)
+    → alike f g a b ≡ alike f g′ a m && alike f g″ m b
+pieces f g g′ g″ a m b h k p q =
+    alike-split f g a m b h k ∙ rw (alike-same f g f g′ a m (λ x l r. refl) p, alike-same f g f g″ m b (λ x l r. refl) q)
+
 -- ---- a block
 module _ (f g : ℕ → ℕ → ℕ) where
   pub in-none : (a b c e : ℕ) → e ≤ c → alikeIn f g a b c e ≡ true
@@ -107,7 +104,11 @@ module _ (f g : ℕ → ℕ → ℕ) where
   unfolding alikeIn
   in-one a b c e h =
       let z : e - c ≡ 1 = omega arith in
-      rw z (unfold every from in and-yes (alike (λ x. f x c) (λ x. g x c) a b))
+      rw z (unfold every from in and-true (alike (λ x. f x c) (λ x. g x c) a b))
+
+  -- the first row, and the others
+  pub in-first : (a b c e : ℕ) → c < e → alikeIn f g a b c e ≡ alike (λ x. f x c) (λ x. g x c) a b && alikeIn f g a b (c + 1) e
+  in-first a b c e h = in-split a b c (c + 1) e (omega arith) (omega arith) ∙ rw (in-one a b c (c + 1) (omega arith))
 
   -- one more row at the end
   pub in-more : (a b c e : ℕ) → c ≤ e → alikeIn f g a b c (e + 1) ≡ alikeIn f g a b c e && alike (λ x. f x e) (λ x. g x e) a b
@@ -148,7 +149,7 @@ in-beside f g a m b c e h k =
       in-if f g m b c e (λ x y l r s t. in-all f g a b c e z x y (omega arith) r s t),
     ))
     (λ z.
-    (let q = Chars.both (alikeIn f g a m c e) (alikeIn f g m b c e) z in
+    (let q = both (alikeIn f g a m c e) (alikeIn f g m b c e) z in
     in-if f g a b c e
     (λ x y l r s t.
     elim (decLe (suc x) m) [ yes d ↦ in-all f g a m c e (q .0) x y l d s t | no d ↦ in-all f g m b c e (q .1) x y (omega arith) r s t ])))

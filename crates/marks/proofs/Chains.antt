@@ -13,9 +13,10 @@ use Rattle.rules.specs.Levels.{Cell}
 use Rattle.marks.specs.Plan.{between, nextOr}
 use Rattle.marks.specs.Joint.{atColumn, joint}
 use Rattle.marks.proofs.Points.{both}
-use Rattle.marks.proofs.Places.{row, column, keep-mem}
+use Rattle.marks.proofs.Places.{row, column}
 use Rattle.marks.proofs.Plans.{Rising, key}
-use Rattle.rules.proofs.CharsBack as Chars
+use Rattle.rules.proofs.Tests as Tests
+use Rattle.rules.proofs.Keeps.{kept-mem}
 
 -- columns rise strictly, the first is at least k
 abbrev pub Chain : ℕ → List Cell → Type 0
@@ -56,8 +57,8 @@ at-above j k (c ∷ cs) r h = rw (ne-eqb (c .column) j (λ e. omega (arith, r .0
 pub between-mem : (a e : ℕ) (ks : List Cell) {c : Cell} → List·Memᴰ c (between a e ks) → List·Memᴰ c ks × (a ≤ c .column) × (c .column < e)
 unfolding between
 between-mem a e ks {c} m =
-    let k = keep-mem (λ (c : Cell). leb a (c .column) && ltb (c .column) e) ks m in
-    let q = Chars.both (leb a (c .column)) (ltb (c .column) e) (k .1) in
+    let k = kept-mem (λ (c : Cell). leb a (c .column) && ltb (c .column) e) ks m in
+    let q = Tests.both (leb a (c .column)) (ltb (c .column) e) (k .1) in
     (k .0, leb-true a (c .column) (q .0), ltb-true (c .column) e (q .1))
 
 pub chain-raise : (a k : ℕ) (cs : List Cell) → Chain k cs → ((c : Cell) → List·Memᴰ c cs → a ≤ c .column) → Chain a cs

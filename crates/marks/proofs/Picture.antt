@@ -26,10 +26,11 @@ use Rattle.marks.specs.Row.{drawn, digit, endBy, whiteSpace}
 use Rattle.marks.proofs.Places.{Proper}
 use Rattle.marks.proofs.Plans.{Rising, proper}
 use Rattle.rules.proofs.Digits.{digits-some, digits-seen}
-use Rattle.rules.proofs.CharsBack as Chars
+use Rattle.rules.proofs.Tests.{both}
 use Rattle.marks.proofs.Margin.{axis-mark}
 use Rattle.marks.proofs.Reading.{wide-low, column-wide}
 use Rattle.rules.proofs.Scalars.{points-scalar}
+use Rattle.rules.proofs.Text.{end-within}
 use Rattle.marks.proofs.Back.{cell-from, rows-few, proper-rising}
 use Rattle.marks.proofs.Same.{view-same}
 use Rattle.marks.proofs.Wired.{picture-same}
@@ -37,7 +38,7 @@ use Rattle.marks.proofs.Text.{Held, held}
 use Rattle.marks.proofs.Titles.{line-of}
 use Rattle.marks.proofs.Tests.{Drawable, forest}
 use Rattle.marks.proofs.Whole.{whole}
-use Rattle.marks.proofs.Rows.{end-most, end-space, end-mark, end-past, end-by, last-drawn, head-digits}
+use Rattle.marks.proofs.Rows.{end-space, end-mark, end-past, end-by, last-drawn, head-digits}
 use Rattle.marks.proofs.Ends.{lawful}
 
 -- what the laws ask of a view holds of the rules' view of such a plan
@@ -81,7 +82,7 @@ module _ (len : List ℕ → ℕ) (marks : Marks) (ok : Lawful len marks) (p : L
       let e = same x 1 ∙ F.row-1-after len marks (view p) ok (l .proper-view) x (omega arith) (omega arith) in
       omega (
         arith,
-        end-most (picture len marks (view p)) 1 (canvasWidth len (view p)),
+        end-within (picture len marks (view p)) 1 (canvasWidth len (view p)),
         end-past (picture len marks (view p)) 1 (canvasWidth len (view p)) x (omega arith) (λ z. omega (arith, e, z, ok .─-seen .above)),
       )
 
@@ -229,7 +230,7 @@ white-drawn k e =
 pub white-digit : (k : ℕ) → digit k ≡ true → whiteSpace k ≡ false
 unfolding digit
 white-digit k e =
-    let q = Chars.both (leb 0x30 k) (ltb k 0x3A) e in
+    let q = both (leb 0x30 k) (ltb k 0x3A) e in
     not-white k (omega (arith, leb-true 0x30 k (q .0))) (omega (arith, ltb-true k 0x3A (q .1)))
 
 pub closed-boxes : (p : List Node) → Drawable p → (x y : ℕ) → x < canvasWidth length (view p) → y < canvasHeight (view p)

@@ -16,13 +16,15 @@ use Rattle.rules.specs.Utf8.{points}
 use Rattle.rules.specs.Levels.{Cell, inRow, inColumn, View}
 use Rattle.rules.specs.Measures.{longest, height, width, rowOffset, columnOffset, linesIn}
 use Rattle.rules.specs.Drawing.{Marks, boxLeft, boxTop, boxRight, boxBottom}
+use Rattle.rules.proofs.Tests.{neither}
+use Rattle.rules.proofs.Keeps.{kept-mem}
 use Rattle.marks.specs.Lawful.{Lawful}
 use Rattle.marks.specs.Joint.{Joint, atColumn, joint, jointOf, headMark}
 use Rattle.marks.specs.Mark.{frameMark, boxMark, upMark, bandMark, fieldMark}
 use Rattle.marks.specs.Whole.{markAt}
 use Rattle.marks.specs.Spot.{Spot, ownMark, cellMark, spotMark}
 use Rattle.marks.specs.Numbers.{Lettered}
-use Rattle.marks.proofs.Places.{Proper, placed, keep-mem, mem-inRow, top-low, left-low}
+use Rattle.marks.proofs.Places.{Proper, placed, mem-inRow, top-low, left-low}
 use Rattle.marks.proofs.Boxes.{line-room}
 use Rattle.marks.proofs.Plans.{Rising}
 use Rattle.marks.proofs.Reading.{getD-mem}
@@ -56,10 +58,6 @@ four true true true d e = (refl, refl, refl, e)
 four true true false d e = absurd (false≢true e)
 four true false c d e = absurd (false≢true e)
 four false b c d e = absurd (false≢true e)
-
-neither : (a b : Bool) → (a || b) ≡ false → (a ≡ false) × (b ≡ false)
-neither false b e = (refl, e)
-neither true b e = absurd (false≢true (sym e))
 
 -- boxes that differ inside alone
 same-box : (o e f s : Bool) (A B C m m′ d : ℕ) → (o ≡ true → e ≡ false → f ≡ false → s ≡ false → m ≡ m′)
@@ -183,7 +181,7 @@ module _ (marks : Marks) (ok : Lawful length marks) (v : View) (pv : Proper v) (
             → pick (s .joint .parent) (cellMark marks s (g x y) x y) 32 ≡ bandMark length marks v i j x y (inColumn (inRow (v .cells) i) j)
         go [] e = ap here (parent-is ∙ at-none j (inRow (v .cells) i) e) ∙ ap (bandMark length marks v i j x y) (sym e)
         go (c ∷ cs) e =
-            let k = keep-mem (λ (c : Cell). eqb (c .column) j) (inRow (v .cells) i) {a = c} (rw e (List·Memᴰ·head refl)) in
+            let k = kept-mem (λ (c : Cell). eqb (c .column) j) (inRow (v .cells) i) {a = c} (rw e (List·Memᴰ·head refl)) in
             let w = mem-inRow (v .cells) i (k .0) in
             ap here (parent-is ∙ at-some j (inRow (v .cells) i) cs c e)
             ∙ cell-own c cs (w .0) (w .1) (eqb-true (c .column) j (k .1)) x y

@@ -1,13 +1,15 @@
--- The numbers of a drawing as a reader's arrays hold them, and a picture whose letters are those of a drawing's titles.
+-- The numbers of a drawing as a reader's arrays hold them, where its columns and rows end by them, and a picture whose letters are those of a drawing's titles.
 use mathlib.Core.Path.{_≡_}
 use mathlib.Core.List.{List, [], List·Memᴰ}
 use Prim.Native.Nat.{ℕ, _+_, _<_}
+use lib.Dec.{ltb}
 use lib.ListN.{length, getD}
 use Rattle.rules.specs.Measures as M
 use Rattle.rules.specs.Utf8.{points}
 use Rattle.rules.specs.Levels.{Cell, View}
 use Rattle.rules.specs.Measures.{linesIn, lineCount, longest, rowOffset, columnOffset, canvasWidth, canvasHeight}
 use Rattle.rules.specs.Drawing.{Marks, boxLeft, boxTop}
+use Rattle.rules.specs.Base.{pick}
 use Rattle.marks.specs.Whole.{markAt}
 
 -- the canvas' size, how many columns and rows there are, their centres cx and cy, and where they begin, xs and ys
@@ -20,6 +22,10 @@ pub record Numbers (v : View) (w h ncols nrows : ℕ) (cx xs cy ys : List ℕ) :
   pub x-is : (j : ℕ) → j < v .columns → getD xs j 0 ≡ columnOffset length v j
   pub cy-is : (i : ℕ) → i < v .rows → getD cy i 0 ≡ M.cy v i
   pub y-is : (i : ℕ) → i < v .rows → getD ys i 0 ≡ rowOffset v i
+
+-- where part k of n ends, of parts that begin at `starts`: where the next one begins, the last one at `to`
+unfoldable pub endAt : (starts : List ℕ) (n to k : ℕ) → ℕ
+endAt starts n to k = pick (ltb (k + 1) n) (getD starts (k + 1) 0) to
 
 -- at each letter of each cell stands that letter
 abbrev pub Lettered : View → (ℕ → ℕ → ℕ) → Type 0

@@ -2,7 +2,7 @@
 -- All of it is about places: the byte k of the part from `at` on is the file's byte at + k, and a word is four of these.
 use mathlib.Core.Path.{_≡_, refl, ap, sym, _∙_}
 use mathlib.Core.List.{List, [], _∷_}
-use mathlib.Core.Bool.{Bool, true, false, _&&_, and-true, and-false}
+use mathlib.Core.Bool.{true, false, _&&_, and-true, and-false}
 use Prim.Native.Nat.{ℕ, suc, zero, _+_, _*_, _-_, _≤_, _<_, min}
 use native.Mathlib.Numerals.{add-one}
 use native.Mathlib.Decide.{decLe}
@@ -14,6 +14,7 @@ use borrow.Author.Tests.{le-leb, lt-leb, leb-true}
 use Rattle.rules.specs.Base.{each, same}
 use Rattle.rules.specs.File.{word, offsetIn, countIn, endsInTree, formed}
 use Rattle.rules.proofs.Lists.{length-each}
+use Rattle.rules.proofs.Tests.{both}
 use Rattle.plan_file.specs.Words.{wordsFrom}
 
 -- the byte k of the part from `at` on
@@ -44,10 +45,6 @@ word-past F at h =
       List·getD-eq-default F 0 {n = at + 3} (omega arith),
     )
 
-first-of : (a b : Bool) → (a && b) ≡ true → a ≡ true
-first-of true b e = refl
-first-of false b e = e
-
 -- four numbers against the mark's
 four : (l : List ℕ) → length l ≡ 4
     → same l (0x54 ∷ 0x52 ∷ 0x45 ∷ 0x45 ∷ []) ≡ (eqb (getD l 0 0) 0x54 && (eqb (getD l 1 0) 0x52 && (eqb (getD l 2 0) 0x45 && (eqb (getD l 3 0) 0x45 && true))))
@@ -76,7 +73,7 @@ short F h = rw (lt-leb 12 (length F) h)
 -- a file with the mark has a trailer's length
 pub long : (F : List ℕ) → endsInTree F ≡ true → 12 ≤ length F
 unfolding endsInTree
-long F e = leb-true 12 (length F) (first-of (leb 12 (length F)) _ e)
+long F e = leb-true 12 (length F) (both (leb 12 (length F)) _ e .0)
 
 -- what a file with the mark that is not too long is to be
 pub whole : (F : List ℕ) (offset count : ℕ) → endsInTree F ≡ true → length F ≤ 65536

@@ -49,14 +49,14 @@ pub digits-two : (n : ℕ) → n < 100 → length (digits n) ≤ 2
 unfolding digits digitsIn
 digits-two n h = digits-grow n 99 (omega arith)
 
-unit : (s : Bool) → pick s 1 0 ≤ 1
+pub one-at-most : (s : Bool) → pick s 1 0 ≤ 1
 unfolding pick
-unit true = omega arith
-unit false = omega arith
+one-at-most true = omega arith
+one-at-most false = omega arith
 
 pub leaf-le : (p : List Node) (k : ℕ) → leaf p k ≤ 1
 unfolding leaf
-leaf-le p k = unit _
+leaf-le p k = one-at-most _
 
 pub column-le : (p : List Node) (k : ℕ) → columnAt p k ≤ k
 unfolding columnAt total

@@ -13,8 +13,9 @@ use Rattle.rules.specs.Base.{pick}
 use Rattle.rules.specs.Utf8.{span, tail, never, following, continues, valid}
 use Rattle.rules.specs.Lines.{linesOf}
 use Rattle.rules.proofs.Chars.{whole, valid-one, following-00}
-use Rattle.rules.proofs.CharsBack.{both, in-span}
+use Rattle.rules.proofs.CharsBack.{in-span}
 use Rattle.rules.proofs.Lines.{first-line, only-line, first-split, Here}
+use Rattle.rules.proofs.Tests.{both}
 
 -- bytes 80 and more pass these tests, and no others
 abbrev pub High : List (ℕ → Bool) → Type 0

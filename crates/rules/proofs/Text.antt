@@ -14,7 +14,7 @@ use borrow.Author.Tests.{eq-eqb, ne-eqb}
 use Rattle.rules.specs.Base.{pick, each}
 use Rattle.rules.specs.Utf8.{utf8}
 use Rattle.rules.specs.Drawing.{endOf, rowText, textOf}
-use Rattle.rules.proofs.Chars.{utf8-one, utf8-two, utf8-three, utf8-four}
+use Rattle.rules.proofs.Codec.{utf8-size}
 
 -- two functions that are the same below n
 pub each-same : {A : Type 0} (f g : ℕ → List A) (n : ℕ) → ((k : ℕ) → k < n → f k ≡ g k) → each f n ≡ each g n
@@ -48,21 +48,6 @@ each-next f n = rw (add-one n)
 pub each-room : {A : Type 0} (f : ℕ → List A) (n e : ℕ) → n < e → length (each f n) + length (f n) ≤ length (each f e)
 each-room f n e h =
     omega (arith, each-rises f (n + 1) e (omega arith), ap length (each-next f n), length-append (each f n) (f n))
-
-pub utf8-some : (c : ℕ) → (1 ≤ length (utf8 c)) × (length (utf8 c) ≤ 4)
-utf8-some c =
-    elim (decLe 0x80 c) [
-      | no n ↦ rw (utf8-one c (omega arith)) (omega arith)
-      | yes a ↦
-          elim (decLe 0x800 c) [
-            | no n ↦ rw (utf8-two c a (omega arith)) (omega arith)
-            | yes b ↦
-                elim (decLe 0x10000 c) [
-                  | no n ↦ rw (utf8-three c b (omega arith)) (omega arith)
-                  | yes e ↦ rw (utf8-four c e) (omega arith)
-                ]
-          ]
-    ]
 
 -- a space at the end is no part of the row, and any other mark is
 pub end-space : (f : ℕ → ℕ → ℕ) (y x : ℕ) → f x y ≡ 0x20 → endOf f y (suc x) ≡ endOf f y x
@@ -107,7 +92,7 @@ pub row-bound : (f : ℕ → ℕ → ℕ) (w y : ℕ) → length (rowText f w y)
 unfolding rowText
 row-bound f w y =
     simp length-append
-    (omega (arith, each-bound (λ x. utf8 (f x y)) (endOf f y w) 4 (λ k h. utf8-some (f k y) .1), end-within f y w))
+    (omega (arith, each-bound (λ x. utf8 (f x y)) (endOf f y w) 4 (λ k h. utf8-size (f k y) .1), end-within f y w))
 
 pub text-bound : (f : ℕ → ℕ → ℕ) (w h : ℕ) → length (textOf f w h) ≤ h * (4 * w + 1)
 unfolding textOf

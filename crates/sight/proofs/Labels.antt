@@ -55,7 +55,8 @@ module _ (g : ℕ → ℕ → ℕ) (w band cy cx : ℕ) where
     unfolding foundAt pick
     cell-none i j e = rw (le-ltb (topSeen g band cy cx) cy (label-gone e))
 
-    label-here : 1 ≤ lines → topSeen g band cy cx < cy
+    -- a cell that has lines has its top border above its centre
+    pub label-here : 1 ≤ lines → topSeen g band cy cx < cy
     label-here h =
         elim (decLe cy (topSeen g band cy cx)) [
           | yes k ↦ absurd (omega (arith, l .gone k .0))

@@ -1,40 +1,24 @@
 -- Marks along a row without the spaces at their end, from the end on: a space goes, and any other mark stays with all before it.
 use mathlib.Core.Path.{_≡_, refl, ap, sym, _∙_}
-use mathlib.Core.List.{List, [], _∷_, _++_, map}
+use mathlib.Core.List.{[], _∷_, _++_, map}
 use mathlib.Core.Bool.{true, false}
 use Prim.Native.Nat.{ℕ, suc, zero, _+_, _-_, _<_}
 use native.Mathlib.Omega.{arith}
 use lib.Dec.{eqb}
 use lib.ListN.{length, length-map}
-use borrow.Author.Tests.{ne-eqb}
-use Rattle.rules.specs.Base.{pick}
-use Rattle.rules.proofs.Candidate.{from, spaceThen, trim}
-use Rattle.marks.proofs.Text.{length-from, map-snoc}
-
-trim-drop : (l : List ℕ) → trim (l ++ (32 ∷ [])) ≡ trim l
-unfolding trim spaceThen pick
-trim-drop [] = refl
-trim-drop (c ∷ l) = ap (spaceThen c) (trim-drop l)
-
-trim-keep : (l : List ℕ) (c : ℕ) → (c ≡ 32 → ⊥) → trim (l ++ (c ∷ [])) ≡ l ++ (c ∷ [])
-unfolding trim spaceThen pick
-trim-keep [] c h = rw (ne-eqb c 32 h)
-trim-keep (b ∷ l) c h = ap (spaceThen b) (trim-keep l c h) ∙ some l
-  where
-    some : (l : List ℕ) → spaceThen b (l ++ (c ∷ [])) ≡ b ∷ (l ++ (c ∷ []))
-    some [] = refl
-    some (k ∷ ks) = refl
+use Rattle.rules.proofs.Candidate.{from, trim}
+use Rattle.marks.proofs.Text.{length-from, map-snoc, trim-space-last, trim-mark-last}
 
 module _ (f : ℕ → ℕ) where
   pub trim-past : (n : ℕ) → 0 < n → f (n - 1) ≡ 32 → trim (map f (from 0 n)) ≡ trim (map f (from 0 (n - 1)))
   trim-past (suc n) h e =
       let z : suc n - 1 ≡ n = omega arith in
-      rw z (ap trim (map-snoc f n ∙ ap (λ k. map f (from 0 n) ++ (k ∷ [])) (ap f (sym z) ∙ e)) ∙ trim-drop (map f (from 0 n)))
+      rw z (ap trim (map-snoc f n ∙ ap (λ k. map f (from 0 n) ++ (k ∷ [])) (ap f (sym z) ∙ e)) ∙ trim-space-last (map f (from 0 n)))
 
   pub trim-here : (n : ℕ) → 0 < n → (f (n - 1) ≡ 32 → ⊥) → trim (map f (from 0 n)) ≡ map f (from 0 n)
   trim-here (suc n) h e =
       let z : suc n - 1 ≡ n = omega arith in
-      ap trim (map-snoc f n) ∙ trim-keep (map f (from 0 n)) (f n) (rw z at e) ∙ sym (map-snoc f n)
+      ap trim (map-snoc f n) ∙ trim-mark-last (map f (from 0 n)) (f n) (rw z at e) ∙ sym (map-snoc f n)
 
   pub length-marks : (n : ℕ) → length (map f (from 0 n)) ≡ n
   length-marks n = rw (length-map, length-from)

@@ -31,7 +31,7 @@ fn marks_bytes(cells: &[u32], width: u32, height: u32, x: u32, y: u32, n: u32) -
 }
 
 // The bytes of a line of n cells from (x, y).
-pub fn line_bytes(cells: &[u32], width: u32, height: u32, x: u32, y: u32, n: u32) -> usize
+pub(crate) fn line_bytes(cells: &[u32], width: u32, height: u32, x: u32, y: u32, n: u32) -> usize
     requires { ⌜ (width * height ≤ length (now cells)) × (x + n ≤ 4294967295) ⌝ }
     ensures { λ r. ⌜ r ≡ length (lineAt (seen (now (cells .entry)) width height) x y n) ⌝ }
 {
@@ -40,20 +40,6 @@ pub fn line_bytes(cells: &[u32], width: u32, height: u32, x: u32, y: u32, n: u32
     }
     let end = line_end(cells, width, height, x, y, n);
     marks_bytes(cells, width, height, x, y, end)
-}
-
-// The bytes of n lines of t cells from (x, y) down, joined by 0A.
-pub fn block_bytes(cells: &[u32], width: u32, height: u32, x: u32, y: u32, t: u32, n: u32) -> usize
-    requires { ⌜ (width * height ≤ length (now cells)) × (x + t ≤ 4294967295) × (y + n ≤ 4294967295) × (1 ≤ n) × (n ≤ 2097153) ⌝ }
-    ensures { λ r. ⌜ r ≡ length (joined (map (λ k. lineAt (seen (now (cells .entry)) width height) x (y + k) t) (rule.from 0 n))) ⌝ }
-{
-    let mut total = line_bytes(cells, width, height, x, y, t);
-    let mut k = 1;
-    while k < n {
-        total += line_bytes(cells, width, height, x, y + k, t) + 1;
-        k += 1;
-    }
-    total
 }
 
 // Writes n marks from (x, y), and answers the place after them.
@@ -83,7 +69,7 @@ fn put_marks(
 }
 
 // Writes a line of n cells from (x, y), and answers the place after it.
-pub fn write_line(
+fn write_line(
     cells: &[u32],
     width: u32,
     height: u32,

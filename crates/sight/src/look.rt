@@ -6,10 +6,10 @@ ghost use Rattle.rules.proofs.Candidate.{next, marked};
 ghost use Rattle.sight.specs.Seen.{seen};
 
 // No mark.
-pub const SPACE: u32 = 0x20;
+pub(crate) const SPACE: u32 = 0x20;
 
 // The mark at (x, y), a space outside.
-pub fn at(cells: &[u32], width: u32, height: u32, x: u32, y: u32) -> u32
+pub(crate) fn at(cells: &[u32], width: u32, height: u32, x: u32, y: u32) -> u32
     requires { ⌜ width * height ≤ length (now cells) ⌝ }
     ensures { λ r. ⌜ r ≡ seen (now (cells .entry)) width height x y ⌝ }
 {
@@ -22,7 +22,7 @@ pub fn at(cells: &[u32], width: u32, height: u32, x: u32, y: u32) -> u32
 }
 
 // The first x from `from` on with a mark on row y; or the width, or `from` beyond it.
-pub fn mark_beside(cells: &[u32], width: u32, height: u32, from: u32, y: u32) -> u32
+pub(crate) fn mark_beside(cells: &[u32], width: u32, height: u32, from: u32, y: u32) -> u32
     requires { ⌜ width * height ≤ length (now cells) ⌝ }
     ensures { λ r. ⌜ r ≡ next (λ x. marked (seen (now (cells .entry)) width height) x y) from width ⌝ }
 {
@@ -37,7 +37,7 @@ pub fn mark_beside(cells: &[u32], width: u32, height: u32, from: u32, y: u32) ->
 }
 
 // The first y from `from` on, before `to`, with a mark at x; or `to`, or `from` beyond it.
-pub fn mark_below(cells: &[u32], width: u32, height: u32, x: u32, from: u32, to: u32) -> u32
+pub(crate) fn mark_below(cells: &[u32], width: u32, height: u32, x: u32, from: u32, to: u32) -> u32
     requires { ⌜ width * height ≤ length (now cells) ⌝ }
     ensures { λ r. ⌜ r ≡ next (λ y. marked (seen (now (cells .entry)) width height) x y) from to ⌝ }
 {

@@ -11,7 +11,7 @@ use crate::look::mark_below;
 use crate::look::mark_beside;
 
 // a - b, or 0.
-pub fn less(a: u32, b: u32) -> u32
+pub(crate) fn less(a: u32, b: u32) -> u32
     ensures { λ r. ⌜ r ≡ a - b ⌝ }
 {
     if a < b {

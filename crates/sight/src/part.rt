@@ -16,13 +16,13 @@ const TOP_LEFT: u32 = 0x256D;
 const TOP_RIGHT: u32 = 0x256E;
 
 // Where a label begins between the sides of its box, and how many cells it has there.
-pub struct Sides {
+pub(crate) struct Sides {
     pub first: u32,
     pub cells: u32,
 }
 
 // The sides of the box with the top border `top` of the column with the centre cx.
-pub fn sides_at(cells: &[u32], width: u32, height: u32, cx: u32, top: u32) -> Sides
+pub(crate) fn sides_at(cells: &[u32], width: u32, height: u32, cx: u32, top: u32) -> Sides
     requires { ⌜ (width * height ≤ length (now cells)) × (cx ≤ 2097152) ⌝ }
     ensures { λ r. ⌜ (r .first ≡ leftSide (seen (now (cells .entry)) width height) cx top + 2)
         × (r .cells ≡ rightSide (seen (now (cells .entry)) width height) width cx top - leftSide (seen (now (cells .entry)) width height) cx top - 3) ⌝ }
@@ -36,7 +36,7 @@ pub fn sides_at(cells: &[u32], width: u32, height: u32, cx: u32, top: u32) -> Si
 }
 
 // How many of n marks from (x, y) there are without the spaces at their end.
-pub fn line_end(cells: &[u32], width: u32, height: u32, x: u32, y: u32, n: u32) -> u32
+pub(crate) fn line_end(cells: &[u32], width: u32, height: u32, x: u32, y: u32, n: u32) -> u32
     requires { ⌜ (width * height ≤ length (now cells)) × (x + n ≤ 4294967295) ⌝ }
     ensures { λ r. ⌜ r ≡ length (trim (map (λ q. seen (now (cells .entry)) width height (x + q) y) (from 0 n))) ⌝ }
 {

@@ -7,7 +7,7 @@ ghost use lib.Seq.{sets};
 ghost use Rattle.canvas_text.specs.Emit.{endIn, bytesTo};
 
 // n marks from (x, y) lie on a row of the picture, and are no more than are counted at once, if it says so.
-pub fn on_row(width: u32, height: u32, x: u32, y: u32, n: u32) -> bool
+pub(crate) fn on_row(width: u32, height: u32, x: u32, y: u32, n: u32) -> bool
     requires { ⌜ x + n ≤ 4294967295 ⌝ }
     ensures { λ r. ⌜ (r ≡ true → (x + n ≤ width) × (y < height) × (n ≤ 1048576)) ⌝ }
 {
@@ -20,7 +20,14 @@ pub fn on_row(width: u32, height: u32, x: u32, y: u32, n: u32) -> bool
 }
 
 // These marks.
-pub fn row_at<'a>(cells: &'a [u32], width: u32, height: u32, x: u32, y: u32, n: u32) -> &'a [u32]
+pub(crate) fn row_at<'a>(
+    cells: &'a [u32],
+    width: u32,
+    height: u32,
+    x: u32,
+    y: u32,
+    n: u32,
+) -> &'a [u32]
     requires { ⌜ (width * height ≤ length (now cells)) × (x + n ≤ width) × (y < height) ⌝ }
     ensures { λ r. ⌜ now r ≡ take n (drop (y * width + x) (now (cells .entry))) ⌝ }
 {
@@ -30,7 +37,7 @@ pub fn row_at<'a>(cells: &'a [u32], width: u32, height: u32, x: u32, y: u32, n: 
 }
 
 // The bytes of a row without the spaces at its end.
-pub fn row_bytes(row: &[u32]) -> usize
+pub(crate) fn row_bytes(row: &[u32]) -> usize
     requires { ⌜ length (now row) ≤ 1048576 ⌝ }
     ensures { λ r. ⌜ r ≡ length (bytesTo (now (row .entry)) (endIn (now (row .entry)))) ⌝ }
 {
@@ -38,7 +45,7 @@ pub fn row_bytes(row: &[u32]) -> usize
 }
 
 // Writes a row without the spaces at its end, and answers the place after it.
-pub fn write_row(row: &[u32], out: &mut [u8], from: usize) -> usize
+pub(crate) fn write_row(row: &[u32], out: &mut [u8], from: usize) -> usize
     requires { ⌜ from + length (bytesTo (now row) (endIn (now row))) ≤ length (now out) ⌝ }
     requires { ⌜ ((i : ℕ) → i < length (now row) → getD (now row) i 0 < 0x200000) ⌝ }
     ensures { λ r. ⌜ (r ≡ from + length (bytesTo (now (row .entry)) (endIn (now (row .entry)))))

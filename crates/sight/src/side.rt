@@ -13,7 +13,14 @@ use crate::look::mark_below;
 use crate::outside::less;
 
 // From x to the left, the first `corner` on row y; or 0.
-pub fn left_corner(cells: &[u32], width: u32, height: u32, x: u32, y: u32, corner: u32) -> u32
+pub(crate) fn left_corner(
+    cells: &[u32],
+    width: u32,
+    height: u32,
+    x: u32,
+    y: u32,
+    corner: u32,
+) -> u32
     requires { ⌜ width * height ≤ length (now cells) ⌝ }
     ensures { λ r. ⌜ r ≡ x - first (λ q. eqb (seen (now (cells .entry)) width height (x - q) y) corner) x ⌝ }
 {
@@ -28,7 +35,14 @@ pub fn left_corner(cells: &[u32], width: u32, height: u32, x: u32, y: u32, corne
 }
 
 // From `from` to the right, the first `corner` on row y; or the width, or `from` beyond it.
-pub fn right_corner(cells: &[u32], width: u32, height: u32, from: u32, y: u32, corner: u32) -> u32
+pub(crate) fn right_corner(
+    cells: &[u32],
+    width: u32,
+    height: u32,
+    from: u32,
+    y: u32,
+    corner: u32,
+) -> u32
     requires { ⌜ width * height ≤ length (now cells) ⌝ }
     ensures { λ r. ⌜ r ≡ next (λ x. eqb (seen (now (cells .entry)) width height x y) corner) from width ⌝ }
 {
@@ -43,7 +57,7 @@ pub fn right_corner(cells: &[u32], width: u32, height: u32, from: u32, y: u32, c
 }
 
 // The lines of a box with the top border `top` in a row with the centre cy, seen at x: its bottom says whether they are odd.
-pub fn box_lines(cells: &[u32], width: u32, height: u32, x: u32, cy: u32, top: u32) -> u32
+pub(crate) fn box_lines(cells: &[u32], width: u32, height: u32, x: u32, cy: u32, top: u32) -> u32
     requires { ⌜ (width * height ≤ length (now cells)) × (top < cy) × (cy ≤ 1048576) ⌝ }
     ensures { λ r. ⌜ r ≡ boxLines (seen (now (cells .entry)) width height) x cy top ⌝ }
 {
@@ -58,7 +72,7 @@ pub fn box_lines(cells: &[u32], width: u32, height: u32, x: u32, cy: u32, top: u
 }
 
 // The lines of the cell with the centres cx and cy in a row with the offset `band`; 0 if there is no cell.
-pub fn cell_lines(cells: &[u32], width: u32, height: u32, band: u32, cy: u32, cx: u32) -> u32
+fn cell_lines(cells: &[u32], width: u32, height: u32, band: u32, cy: u32, cx: u32) -> u32
     requires { ⌜ (width * height ≤ length (now cells)) × (cy ≤ 1048576) ⌝ }
     ensures { λ r. ⌜ r ≡ cellLines (seen (now (cells .entry)) width height) band cy cx ⌝ }
 {

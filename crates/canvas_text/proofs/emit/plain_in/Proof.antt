@@ -7,8 +7,8 @@ use native.Mathlib.Decide.{ℕ-discrete}
 use native.Mathlib.Omega.{arith}
 use lib.Dec.{ltb}
 use lib.ListN.{getD}
+use Rattle.rules.proofs.Tests.{both}
 use borrow.Author.Tests.{ltb-true}
-use Rattle.rules.proofs.CharsBack.{both}
 use borrow.Author.Needs.{needs}
 use Rattle.canvas_text.proofs.emit.plain_in.Statement.{statement}
 use Rattle.canvas_text.proofs.emit.plain_in.Tie as tie

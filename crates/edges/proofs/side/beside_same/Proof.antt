@@ -4,8 +4,9 @@ use Prim.Native.Nat.{ℕ, _+_, _*_}
 use native.Mathlib.Nat.{le-trans, mul-le-mul-right}
 use native.Mathlib.Omega.{arith}
 use lib.ListN.{length, getD}
+use Rattle.marks.proofs.Cells.{row-within}
 use Rattle.edges.proofs.Runs.{then-no, then-yes}
-use Rattle.edges.proofs.Blocks.{around, row-fits}
+use Rattle.edges.proofs.Blocks.{around}
 use borrow.Author.Needs.{needs}
 use Rattle.edges.proofs.side.beside_same.Statement.{statement}
 use Rattle.edges.proofs.side.beside_same.Tie as tie
@@ -20,13 +21,13 @@ mul-center-same : tie.Need-mul-center-same
 mul-center-same c =
     let s = c .before .before .before in
     let a = s .args in
-    record { fits = omega (arith, row-fits (a .width) (a .end) (a .a + 2) (length (a .cells .now)) (a .cy) (s .pre .5) (search needs) (search needs)) }
+    record { fits = omega (arith, row-within (a .width) (a .a + 2) (a .cy) (a .end) (length (a .cells .now)) (search needs) (s .pre .5) (search needs)) }
 
 center-same-requires : tie.Need-center-same-requires
 center-same-requires c κs =
     let s = c .before .before .before in
     let a = s .args in
-    (search needs, search needs, row-fits (a .width) (a .end) (a .a + 2) (length (a .cells .now)) (a .cy) (s .pre .5) (search needs) (search needs))
+    (search needs, search needs, row-within (a .width) (a .a + 2) (a .cy) (a .end) (length (a .cells .now)) (search needs) (s .pre .5) (search needs))
 
 add-plains-same : tie.Need-add-plains-same
 add-plains-same c = search needs

@@ -5,10 +5,10 @@ use native.Mathlib.Omega.{arith}
 use lib.ListN.{length, getD}
 use borrow.Author.Tests.{not-true, not-false}
 use Rattle.marks.specs.Alike.{alikeIn}
-use Rattle.marks.proofs.Alike.{in-none}
+use Rattle.marks.proofs.Alike.{in-none, in-first}
+use Rattle.marks.proofs.Cells.{row-within}
 use Rattle.edges.specs.Edge.{plainSide}
 use Rattle.edges.proofs.Runs.{then-no, then-on}
-use Rattle.edges.proofs.Blocks.{in-first, row-fits}
 use borrow.Author.Needs.{needs}
 use Rattle.edges.proofs.side.plains_same.Statement.{statement}
 use Rattle.edges.proofs.side.plains_same.Tie as tie
@@ -28,7 +28,7 @@ mul-line-same : tie.Need-mul-line-same Inv-loop μ-loop
 mul-line-same c =
     let s = c .before .before .before in
     let a = s .args in
-    record { fits = omega (arith, row-fits (a .width) (a .end) (a .a + 2) (length (a .cells .now)) (c .before .loop .y) (s .pre .1) (s .pre .0) (search needs)) }
+    record { fits = omega (arith, row-within (a .width) (a .a + 2) (c .before .loop .y) (a .end) (length (a .cells .now)) (s .pre .0) (s .pre .1) (search needs)) }
 
 add-line-same : tie.Need-add-line-same Inv-loop μ-loop
 add-line-same c = search needs
@@ -37,7 +37,7 @@ line-same-requires : tie.Need-line-same-requires Inv-loop μ-loop
 line-same-requires c κs =
     let s = c .before .before .before in
     let a = s .args in
-    (search needs, row-fits (a .width) (a .end) (a .a + 2) (length (a .cells .now)) (c .before .loop .y) (s .pre .1) (s .pre .0) (search needs))
+    (search needs, row-within (a .width) (a .a + 2) (c .before .loop .y) (a .end) (length (a .cells .now)) (s .pre .0) (s .pre .1) (search needs))
 
 returns : tie.Need-returns Inv-loop μ-loop
 returns c =

@@ -1,6 +1,6 @@
 -- Each return is one case of the test.
 use mathlib.Core.Path.{sym}
-use Rattle.edges.proofs.Blocks.{end-next, end-last}
+use Rattle.marks.proofs.Numbers.{end-next, end-last}
 use borrow.Author.Needs.{needs}
 use Rattle.edges.proofs.side.row_end.Statement.{statement}
 use Rattle.edges.proofs.side.row_end.Tie as tie

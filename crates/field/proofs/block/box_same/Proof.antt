@@ -3,7 +3,8 @@ use Prim.Native.Nat.{_+_}
 use mathlib.Core.Path.{sym, _∙_}
 use native.Mathlib.Omega.{arith}
 use lib.ListN.{length}
-use Rattle.field.proofs.Down.{row-within, rows-within}
+use Rattle.marks.proofs.Cells.{row-within}
+use Rattle.field.proofs.Down.{rows-within}
 use Rattle.field.proofs.Blocks.{box-rows}
 use borrow.Author.Needs.{needs}
 use Rattle.field.proofs.block.box_same.Statement.{statement}

@@ -3,7 +3,8 @@ use Prim.Native.Nat.{_-_}
 use mathlib.Core.Path.{_≡_, refl, sym, _∙_}
 use lib.ListN.{getD}
 use Rattle.marks.specs.Alike.{alike}
-use Rattle.field.proofs.Runs.{run-end, run-past, run-stop}
+use Rattle.marks.proofs.Alike.{alike-none}
+use Rattle.field.proofs.Runs.{run-past, run-stop}
 use borrow.Author.Needs.{needs}
 use Rattle.field.proofs.run.few_same.Statement.{statement}
 use Rattle.field.proofs.run.few_same.Tie as tie
@@ -45,7 +46,7 @@ returns-2 : tie.Need-returns-2 Inv-loop μ-loop
 returns-2 c =
     let l = c .before .loop in
     let a = c .before .before .args in
-    sym (l .inv ∙ run-end (λ x. getD (a .cells .now) x 0) (λ _. a .mark) (l .k) (a .to) (search needs))
+    sym (l .inv ∙ alike-none (λ x. getD (a .cells .now) x 0) (λ _. a .mark) (l .k) (a .to) (search needs))
 
 pub few-same-spec : {M : Type 1} → statement M
 few-same-spec =

@@ -4,9 +4,11 @@ use mathlib.Core.Path.{_≡_, refl, sym, _∙_}
 use native.Mathlib.Omega.{arith}
 use lib.ListN.{length, getD}
 use Rattle.marks.specs.Alike.{alikeIn}
+use Rattle.marks.proofs.Alike.{in-none}
+use Rattle.marks.proofs.Cells.{row-within}
 use Rattle.field.specs.Fits.{markIn}
 use Rattle.field.proofs.Runs.{run-shift}
-use Rattle.field.proofs.Down.{row-within, rows-end, rows-past, rows-stop}
+use Rattle.field.proofs.Down.{rows-past, rows-stop}
 use borrow.Author.Needs.{needs}
 use Rattle.field.proofs.run.runs_same.Statement.{statement}
 use Rattle.field.proofs.run.runs_same.Tie as tie
@@ -77,7 +79,7 @@ returns-2 c =
     let s = c .before .before .before in
     let a = s .args in
     let l = c .before .loop in
-    sym (l .inv ∙ rows-end (markIn (a .cells .now) (a .width)) (λ x y. a .mark) (a .a) (a .b) (l .y) (a .to) (c .loop-test .left))
+    sym (l .inv ∙ in-none (markIn (a .cells .now) (a .width)) (λ x y. a .mark) (a .a) (a .b) (l .y) (a .to) (c .loop-test .left))
 
 pub runs-same-spec : {M : Type 1} → statement M
 runs-same-spec =

@@ -4,8 +4,9 @@ use mathlib.Core.Path.{_≡_, ap, sym, _∙_}
 use native.Mathlib.Omega.{arith}
 use lib.Dec.{eqb}
 use Rattle.rules.specs.Plan.{sizeIn}
+use Rattle.rules.proofs.Bounds.{one-at-most}
 use Rattle.levels.proofs.Plans.{count-whole}
-use Rattle.levels.proofs.Empties.{one-at-most, emptyTo, empty-zero, empty-next, empty-all}
+use Rattle.levels.proofs.Empties.{emptyTo, empty-zero, empty-next, empty-all}
 use borrow.Author.Needs.{needs}
 use Rattle.levels.proofs.walk.untitled.Statement.{statement}
 use Rattle.levels.proofs.walk.untitled.Tie as tie
