@@ -118,15 +118,25 @@ fn measured(
 {
     let nrows = levels::rows(table, nodes);
     let d = tree_view::index_digits(nrows);
-    let columns = tree_view::tree_columns(nodes, column, longest, ncols, d + 4);
+    let mut offset = [0u32; 256];
+    let mut width = [6u32; 256];
+    let mut cx = [0u32; 256];
+    tree_view::tree_columns(
+        nodes,
+        column,
+        longest,
+        ncols,
+        d + 4,
+        &mut offset,
+        &mut width,
+        &mut cx,
+    );
     let rows = tree_view::tree_rows(table, nodes, lines, nrows);
     let size = Size {
-        width: tree_view::canvas_width(&columns.offset, &columns.width, ncols),
+        width: tree_view::canvas_width(&offset, &width, ncols),
         height: tree_view::canvas_height(&rows.offset, &rows.height, nrows),
     };
-    let mut cx = [0u32; 256];
     let mut cy = [0u32; 32];
-    tree_view::column_centers(&columns.offset, &columns.center, ncols, &mut cx);
     tree_view::row_centers(&rows.offset, &rows.center, nrows, &mut cy);
     sized(
         table,

@@ -1,16 +1,10 @@
-// Offsets, widths and centres of all columns.
+// Offsets, widths and centres of all columns, in arrays that are lent: three of 256 entries are too much to copy.
 use crate::cell;
 ghost use mathlib.Core.Path.{_≡_};
 ghost use Prim.Native.Nat.{ℕ, _+_, _-_, _≤_, _<_, _^_};
 ghost use lib.ListN.{getD, replicate};
 ghost use Rattle.levels.specs.Filled.{filled};
-ghost use Rattle.tree_view.specs.Sizes.{widthIn, Wide, columnsIn, sumAt, middleAt};
-
-pub struct Columns {
-    pub offset: [u32; 256],
-    pub width: [u32; 256],
-    pub center: [u32; 256],
-}
+ghost use Rattle.tree_view.specs.Sizes.{widthIn, Wide, offsetIn, centreIn, sumAt, middleAt};
 
 // Raises width[column[k]] to longest[k] + 6, for every node k.
 fn widen(nodes: usize, column: &[u32; 256], longest: &[u32; 256], width: &mut [u32; 256])
@@ -26,35 +20,34 @@ fn widen(nodes: usize, column: &[u32; 256], longest: &[u32; 256], width: &mut [u
     }
 }
 
-// The columns of a plan: `count` of them, the first at `start`.
+// The columns of a plan: `count` of them, the first at `start`; cx[j] is the centre of column j on the canvas.
 pub fn tree_columns(
     nodes: usize,
     column: &[u32; 256],
     longest: &[u32; 256],
     count: u32,
     start: u32,
-) -> Columns
+    offset: &mut [u32; 256],
+    width: &mut [u32; 256],
+    cx: &mut [u32; 256],
+)
     requires { ⌜ Wide (now column) (now longest) nodes ⌝ }
-    requires { ⌜ (count ≤ 256) × (start ≤ 256) ⌝ }
-    ensures { λ r. ⌜ r ≡ columnsIn (now (column .entry)) (now (longest .entry)) nodes count start ⌝ }
+    requires { ⌜ (count ≤ 256) × (start ≤ 256) × (now width ≡ replicate 256 6) ⌝ }
+    ensures { λ r. ⌜ now (offset .exit) ≡ filled (offsetIn (now (column .entry)) (now (longest .entry)) nodes start) 0 count (now (offset .entry)) ⌝ }
+    ensures { λ r. ⌜ now (width .exit) ≡ filled (widthIn (now (column .entry)) (now (longest .entry)) nodes) 0 256 (now (width .entry)) ⌝ }
+    ensures { λ r. ⌜ now (cx .exit) ≡ filled (centreIn (now (column .entry)) (now (longest .entry)) nodes start) 0 count (now (cx .entry)) ⌝ }
 {
-    let mut c = Columns {
-        offset: [0u32; 256],
-        width: [6u32; 256],
-        center: [0u32; 256],
-    };
-    widen(nodes, column, longest, &mut c.width);
+    widen(nodes, column, longest, width);
     let n = text::wide(count);
     let mut x = start;
     let mut j = 0;
     while j < n {
-        let w = c.width[j];
-        c.offset[j] = x;
-        c.center[j] = cell::half_up(w);
+        let w = width[j];
+        offset[j] = x;
+        cx[j] = x + cell::half_up(w);
         x += w;
         j += 1;
     }
-    c
 }
 
 // The canvas' width: one less than where the last of `count` columns ends (there is one).
@@ -65,25 +58,6 @@ pub fn canvas_width<'a>(offset: &'a [u32; 256], width: &'a [u32; 256], count: u3
 {
     let last = text::wide(count) - 1;
     offset[last] + width[last] - 1
-}
-
-// cx[j] = the centre of column j, for the first `count` columns.
-pub fn column_centers<'a>(
-    offset: &'a [u32; 256],
-    center: &'a [u32; 256],
-    count: u32,
-    cx: &mut [u32; 256],
-)
-    requires { ⌜ count ≤ 256 ⌝ }
-    requires { ⌜ ((j : ℕ) → j < count → sumAt (now offset) (now center) j < 2 ^ 32) ⌝ }
-    ensures { λ r. ⌜ now (cx .exit) ≡ filled (sumAt (now (offset .entry)) (now (center .entry))) 0 count (now (cx .entry)) ⌝ }
-{
-    let n = text::wide(count);
-    let mut j = 0;
-    while j < n {
-        cx[j] = offset[j] + center[j];
-        j += 1;
-    }
 }
 
 // middle[k] = the centre of node k's column, for every node.

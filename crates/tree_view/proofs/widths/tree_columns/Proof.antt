@@ -1,32 +1,34 @@
--- After j turns the struct holds the first j columns, and x is where column j begins. No width is over 1030, so every sum fits.
-use mathlib.Core.Path.{_≡_, refl, ap, _∙_}
+-- After j turns the first j columns stand in the arrays, and x is where column j begins. No width is over 1030, so every sum fits.
+use mathlib.Core.Path.{_≡_, refl, ap}
 use Prim.Native.Nat.{ℕ, _≤_, _-_}
 use native.Mathlib.Omega.{arith}
-use lib.ListN.{getD}
-use Rattle.tree_view.specs.Sizes.{after, widthIn, columnsIn}
+use lib.ListN.{length, getD}
+use Rattle.levels.specs.Filled.{filled}
 use Rattle.rules.specs.Base.{halfUp}
-use Rattle.tree_view.proofs.Sizes.{most-le, after-more, sum-le}
-use Rattle.tree_view.proofs.Laid.{filled-none, columns-equal, columns-more, width-at}
+use Rattle.tree_view.specs.Sizes.{after, widthIn, offsetIn, centreIn}
+use Rattle.tree_view.proofs.Sizes.{fill-more, most-le, after-more, sum-le}
+use Rattle.tree_view.proofs.Laid.{filled-none, at-whole}
 use borrow.Author.Needs.{needs}
 use Rattle.tree_view.proofs.widths.tree_columns.Statement.{statement}
 use Rattle.tree_view.proofs.widths.tree_columns.Tie as tie
 
 abbrev Inv-loop : tie.InvT-loop
-Inv-loop nodes column longest count start c₀ n x₀ j₀ c x j =
-    (j ≤ n) × (x ≡ after (widthIn column longest nodes) start 0 j) × (c ≡ columnsIn column longest nodes j start)
+Inv-loop nodes column longest count start offset₀ width cx₀ n x₀ j₀ offset cx x j =
+    (j ≤ n) × (x ≡ offsetIn column longest nodes start j)
+    × (offset ≡ filled (offsetIn column longest nodes start) 0 j offset₀) × (cx ≡ filled (centreIn column longest nodes start) 0 j cx₀)
 
 abbrev μ-loop : tie.MeasureT-loop
-μ-loop nodes column longest count start c₀ n x₀ j₀ c x j = n - j
+μ-loop nodes column longest count start offset₀ width cx₀ n x₀ j₀ offset cx x j = n - j
 
 widen-requires : tie.Need-widen-requires Inv-loop μ-loop
-widen-requires c κs = (c .before .pre .0, refl)
+widen-requires c κs = (c .before .pre .0, c .before .pre .1 .2)
 
 wide-requires : tie.Need-wide-requires Inv-loop μ-loop
 wide-requires c κs = search needs
 
 loop-holds : tie.Need-loop-holds Inv-loop μ-loop
 unfolding after
-loop-holds c = (search needs, refl, columns-equal (filled-none _ _) (c .before .widen .ensures) (filled-none _ _))
+loop-holds c = (search needs, refl, filled-none _ _, filled-none _ _)
 
 mul-w : tie.Need-mul-w Inv-loop μ-loop
 mul-w c = search needs
@@ -34,20 +36,31 @@ mul-w c = search needs
 element-copy-out-w : tie.Need-element-copy-out-w Inv-loop μ-loop
 element-copy-out-w c = search needs
 
-mul-c : tie.Need-mul-c Inv-loop μ-loop
-mul-c c = search needs
+mul-offset : tie.Need-mul-offset Inv-loop μ-loop
+mul-offset c = search needs
 
-element-write-c : tie.Need-element-write-c Inv-loop μ-loop
-element-write-c c = search needs
+element-write-offset : tie.Need-element-write-offset Inv-loop μ-loop
+element-write-offset c = search needs
 
 half-up-requires : tie.Need-half-up-requires Inv-loop μ-loop
 half-up-requires c κs = search needs
 
-mul-c-2 : tie.Need-mul-c-2 Inv-loop μ-loop
-mul-c-2 c = search needs
+add-cx : tie.Need-add-cx Inv-loop μ-loop
+unfolding halfUp
+add-cx c =
+    let s = c .before .before .before .before .before .before .before in
+    let l = c .before .before .before .loop in
+    let W = widthIn (s .args .column .now) (s .args .longest .now) (s .args .nodes) in
+    let b : (j : ℕ) → W j ≤ 1030 = λ j. most-le _ _ 6 (s .args .nodes) j 1024 (s .pre .0 .within .sized) in
+    let e : getD (c .before .before .before .before .before .widen .last .1 .1 .1 .0) (l .j) 0 ≡ W (l .j) =
+    at-whole W 256 (l .j) _ (s .args .width .now) (c .before .before .before .before .before .widen .ensures) (omega (arith, ap length (s .pre .1 .2))) (omega arith) in
+    record { fits = omega (arith, c .half-up .ensures, sum-le W (s .args .start) 0 1030 (l .j) (l .x) _ (λ j. omega (arith, b j)) (l .inv .1) e) }
 
-element-write-c-2 : tie.Need-element-write-c-2 Inv-loop μ-loop
-element-write-c-2 c = search needs
+mul-cx : tie.Need-mul-cx Inv-loop μ-loop
+mul-cx c = search needs
+
+element-write-cx : tie.Need-element-write-cx Inv-loop μ-loop
+element-write-cx c = search needs
 
 add-x : tie.Need-add-x Inv-loop μ-loop
 add-x c =
@@ -55,7 +68,8 @@ add-x c =
     let l = c .before .before .before .loop in
     let W = widthIn (s .args .column .now) (s .args .longest .now) (s .args .nodes) in
     let b : (j : ℕ) → W j ≤ 1030 = λ j. most-le _ _ 6 (s .args .nodes) j 1024 (s .pre .0 .within .sized) in
-    let e : getD (l .c .width) (l .j) 0 ≡ W (l .j) = width-at _ W _ (l .j) (l .j) (l .c) (l .inv .2) (omega arith) in
+    let e : getD (c .before .before .before .before .before .widen .last .1 .1 .1 .0) (l .j) 0 ≡ W (l .j) =
+    at-whole W 256 (l .j) _ (s .args .width .now) (c .before .before .before .before .before .widen .ensures) (omega (arith, ap length (s .pre .1 .2))) (omega arith) in
     record { fits = omega (arith, sum-le W (s .args .start) 0 1030 (l .j) (l .x) _ (λ j. omega (arith, b j)) (l .inv .1) e) }
 
 add-j : tie.Need-add-j Inv-loop μ-loop
@@ -69,16 +83,18 @@ loop-again c =
     let s = c .before .before .before .before .before .before .before in
     let l = c .before .before .before .loop in
     let W = widthIn (s .args .column .now) (s .args .longest .now) (s .args .nodes) in
-    let e : getD (l .c .width) (l .j) 0 ≡ W (l .j) = width-at _ W _ (l .j) (l .j) (l .c) (l .inv .2) (omega arith) in (
+    let e : getD (c .before .before .before .before .before .widen .last .1 .1 .1 .0) (l .j) 0 ≡ W (l .j) =
+    at-whole W 256 (l .j) _ (s .args .width .now) (c .before .before .before .before .before .widen .ensures) (omega (arith, ap length (s .pre .1 .2))) (omega arith) in (
       search needs,
       omega (arith, after-more W (s .args .start) 0 (l .j), e),
-      columns-more _ W _ (l .j) _ _ (l .c) (l .inv .2) (l .inv .1) (c .half-up .ensures ∙ ap halfUp e),
+      fill-more _ (l .j) _ (l .offset) _ (l .inv .2) (l .inv .1),
+      fill-more _ (l .j) _ (l .cx) _ (l .inv .3) (rw (c .half-up .ensures, e, l .inv .1)),
     )
 
 returns : tie.Need-returns Inv-loop μ-loop
 returns c =
     let e : c .before .loop .j ≡ c .before .before .before .before .before .args .count = omega arith in
-    rw e at (c .before .loop .inv .2)
+    (rw e at (c .before .loop .inv .2), (c .before .before .before .widen .ensures, rw e at (c .before .loop .inv .3)))
 
 pub tree-columns-spec : {M : Type 1} → statement M
 tree-columns-spec =
@@ -91,11 +107,12 @@ tree-columns-spec =
     loop-holds
     mul-w
     element-copy-out-w
-    mul-c
-    element-write-c
+    mul-offset
+    element-write-offset
     half-up-requires
-    mul-c-2
-    element-write-c-2
+    add-cx
+    mul-cx
+    element-write-cx
     add-x
     add-j
     loop-less
