@@ -115,6 +115,13 @@ impl Read {
     }
 }
 
+// The same value, which the compiler must have made. (std::hint::black_box came after the oldest compiler that this is for.)
+fn keep<T>(value: T) -> T {
+    let same = unsafe { std::ptr::read_volatile(&value) };
+    std::mem::forget(value);
+    same
+}
+
 // Nanoseconds of the best and the middle round, for each of the runners in turn.
 fn race(runners: &mut [&mut dyn FnMut()], rounds: usize) -> Vec<(f64, f64)> {
     let mut turns = vec![];
@@ -219,10 +226,10 @@ fn table(title: &str, dot: bool, rounds: usize, lend: fn(&mut Lent, usize, usize
         let times = race(
             &mut [
                 &mut || {
-                    std::hint::black_box(theirs(std::hint::black_box(&tree), dot));
+                    keep(theirs(keep(&tree), dot));
                 },
                 &mut || {
-                    std::hint::black_box(if dot { lent.dot() } else { lent.text() });
+                    keep(if dot { lent.dot() } else { lent.text() });
                 },
             ],
             rounds,
@@ -260,8 +267,8 @@ fn readings(rounds: usize) {
         assert!(five[0] == 0 && back.table[..entries] == lent.table[..] && back.titles[..bytes] == lent.titles[..], "{name}: it is read back as another plan");
         let times = race(
             &mut [
-                &mut || { std::hint::black_box(lent.text()); },
-                &mut || { std::hint::black_box(back.read()); },
+                &mut || { keep(lent.text()); },
+                &mut || { keep(back.read()); },
             ],
             rounds,
         );
@@ -283,9 +290,10 @@ fn main() {
     let rounds = std::env::args().nth(1).and_then(|w| w.parse().ok()).unwrap_or(400);
     let processor = std::fs::read_to_string("/proc/cpuinfo")
         .ok()
-        .and_then(|s| s.lines().find(|l| l.starts_with("model name")).and_then(|l| l.split(": ").nth(1).map(String::from)))
-        .unwrap_or_else(|| "an unknown processor".to_string());
-    println!("Native x86-64 on {processor}. The best of {rounds} rounds for each, taken in turn; `middle round` is the ratio of the middle rounds.");
+        .and_then(|s| s.lines().find(|l| l.starts_with("model name") || l.starts_with("CPU part")).map(|l| l.replace("\t", "")))
+        .unwrap_or_else(|| "no name".to_string());
+    let way = std::env::args().nth(2).unwrap_or_default();
+    println!("{way} on a processor with {processor}. The best of {rounds} rounds for each, taken in turn; `middle round` is the ratio of the middle rounds.");
     println!("Memory is made once for each plan and not cleared between drawings.");
     table("Text, with 5 bytes of output lent for each cell:", false, rounds, |lent, cells, _| {
         lent.canvas = vec![0; cells];

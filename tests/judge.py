@@ -24,6 +24,11 @@ def missing():
     except (OSError, subprocess.CalledProcessError): return 'rustc is not here'
 
 
+def command(program):
+    """Runs a program that rt built: such programs are for x86-64, and elsewhere tests/program runs them."""
+    return [program] if os.uname().machine == 'x86_64' else [os.path.join(ROOT, 'tests', 'program'), program]
+
+
 def head(op, lent1, lent2, lent3, length): return struct.pack('<5I', op, lent1, lent2, lent3, length)
 
 

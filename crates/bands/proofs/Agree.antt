@@ -26,8 +26,7 @@ use Rattle.marks.proofs.Spots.{spot-field, mark-block}
 use Rattle.sight.specs.Seen.{seen}
 use Rattle.tree_view.proofs.Limits.{columns-le, canvas-height-le}
 use Rattle.tree_view.proofs.Ruled.{view-columns}
-use Rattle.bands.specs.declared.row.Row.{Row}
-use Rattle.bands.specs.Row.{RowOf}
+use Rattle.bands.specs.Row.{Row, RowOf}
 use Rattle.bands.specs.Strip.{spotIn, stripSame, stripsSame}
 use Rattle.bands.specs.Parts.{columnFrom, rowFrom}
 use Rattle.bands.specs.Ready.{Ready}
@@ -134,6 +133,7 @@ module _ {p : List Node} (cells : List ℕ) {w h : ℕ} {T : List ℕ} {nodes : 
   -- ---- what a row is made of
   pub record Made : Type 0 where
     pub nodes-few : nodes ≤ 256
+    pub columns-some : 1 ≤ ncols
     pub columns-few : ncols ≤ 256
     pub rows-few : nrows ≤ 32
     pub height-few : h < 4294967295
@@ -146,6 +146,7 @@ module _ {p : List Node} (cells : List ℕ) {w h : ℕ} {T : List ℕ} {nodes : 
       let s = q .small in
       record {
         nodes-few = omega (arith, s .nodes);
+        columns-some = omega (arith, q .numbers .columns-are, drawn .proper-view .columned);
         columns-few = omega (arith, q .numbers .columns-are, columns-le p s);
         rows-few = omega (arith, q .numbers .rows-are, drawn .few-rows);
         height-few = omega (arith, q .numbers .high, canvas-height-le p s);

@@ -28,8 +28,7 @@ use Rattle.tree_view.specs.Measured.{linesAt, longestAt}
 use Rattle.tree_view.proofs.Boxes.{cell-at, cell-lines, node-left, node-right, node-top, node-bottom}
 use Rattle.tree_view.proofs.Nodes.{longest-at-le, lines-at-le}
 use Rattle.tree_view.proofs.Limits.{fits-width, fits-height, cx-le, cy-le, columns-le}
-use Rattle.bands.specs.declared.row.Row.{Row}
-use Rattle.bands.specs.Row.{nodesIn, some, seenTo, goesIn, endIn, RowOf}
+use Rattle.bands.specs.Row.{Row, nodesIn, some, seenTo, goesIn, endIn, RowOf}
 use Rattle.bands.specs.Strip.{sizeOf, spotIn, Room, Apt}
 use Rattle.bands.specs.Ready.{Ready}
 use Rattle.bands.proofs.Tests.{or-yes, On, some-at, on-at, none-above, seen-up, goes-on}

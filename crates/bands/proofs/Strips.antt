@@ -14,8 +14,7 @@ use Rattle.marks.specs.Spot.{Spot, spotMark}
 use Rattle.marks.proofs.Alike.{every-split, every-all, and-yes}
 use Rattle.field.specs.declared.spot.Spot as F
 use Rattle.field.specs.Fits.{plain, Fits}
-use Rattle.bands.specs.declared.row.Row.{Row}
-use Rattle.bands.specs.Row.{some, seenTo, endIn}
+use Rattle.bands.specs.Row.{Row, some, seenTo, endIn}
 use Rattle.bands.specs.Strip.{sizeOf, spotBy, spotIn, stripSame, stripsSame, Room}
 
 pub fits-spot : (s : F.Spot) (width : ℕ) (r : Row) (a b x n t : ℕ) (cell up child on : Bool)

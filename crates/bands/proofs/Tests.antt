@@ -6,7 +6,7 @@ use Prim.Native.Nat.{ℕ, suc, zero, _+_, _-_, _≤_, _<_}
 use native.Mathlib.Decide.{ℕ-discrete}
 use native.Mathlib.Omega.{arith}
 use lib.Dec.{eqb}
-use lib.ListN.{length, getD}
+use lib.ListN.{length, getD, set}
 use lib.Seq.{getD-set-same, getD-set-other}
 use borrow.Author.Tests.{eq-eqb, ne-eqb}
 use Rattle.rules.specs.Base.{pick, keep, each}
@@ -21,7 +21,7 @@ use Rattle.marks.proofs.Running.{up-zero, up-suc, onward, onward-suc, onward-la
 use Rattle.tree_view.proofs.Sizes.{replicate-at}
 use Rattle.tree_view.proofs.Boxes.{cell-at}
 use Rattle.bands.specs.Row.{nodesIn, some, seenTo, passes, goesIn}
-use Rattle.bands.proofs.Entries.{nodes-length}
+use Rattle.bands.proofs.Entries.{nodes-none, nodes-length}
 
 -- ---- lists of cells
 at-append : (j : ℕ) (l m : List Cell) → atColumn j (l ++ m) ≡ atColumn j l || atColumn j m
@@ -68,24 +68,17 @@ module _ (p : List Node) (T C : List ℕ) (dep : (k : ℕ) → k < length p → 
   entry : (i j n : ℕ) → j < 256 → n < length p
       → getD (nodesIn T C (i + 1) (suc n)) j 0 ≡ pick (eqb (depthAt p n) i && eqb (columnAt p n) j) (suc n) (getD (nodesIn T C (i + 1) n) j 0)
   unfolding nodesIn pick
-  entry i j n h b =
-      rw (col n b, dep n b, eqb-next (depthAt p n) i)
-      (elim (ℕ-discrete (columnAt p n) j) [
-        | yes e ↦
-            rw (eq-eqb (columnAt p n) j e, e)
-            (getD-set-same (nodesIn T C (i + 1) n) j (pick (eqb (depthAt p n) i) (suc n) (getD (nodesIn T C (i + 1) n) j 0)) 0 (omega (arith, nodes-length T C (i + 1) n)) ∙ yes-and (eqb (depthAt p n) i))
-        | no e ↦
-            rw (ne-eqb (columnAt p n) j e)
-            (getD-set-other (nodesIn T C (i + 1) n) (columnAt p n) j (pick (eqb (depthAt p n) i) (suc n) (getD (nodesIn T C (i + 1) n) (columnAt p n) 0)) 0 (λ q. e (sym q)) ∙ no-and (eqb (depthAt p n) i))
-      ])
+  entry i j n h b = rw (col n b, dep n b, eqb-next (depthAt p n) i) (go (eqb (depthAt p n) i))
     where
-      yes-and : (b : Bool) → pick b (suc n) (getD (nodesIn T C (i + 1) n) j 0) ≡ pick (b && true) (suc n) (getD (nodesIn T C (i + 1) n) j 0)
-      yes-and true = refl
-      yes-and false = refl
-
-      no-and : (b : Bool) → getD (nodesIn T C (i + 1) n) j 0 ≡ pick (b && false) (suc n) (getD (nodesIn T C (i + 1) n) j 0)
-      no-and true = refl
-      no-and false = refl
+      go : (d : Bool)
+          → getD (pick d (set (nodesIn T C (i + 1) n) (columnAt p n) (suc n)) (nodesIn T C (i + 1) n)) j 0
+          ≡ pick (d && eqb (columnAt p n) j) (suc n) (getD (nodesIn T C (i + 1) n) j 0)
+      go true =
+          elim (ℕ-discrete (columnAt p n) j) [
+            | yes e ↦ rw (eq-eqb (columnAt p n) j e, e) (getD-set-same (nodesIn T C (i + 1) n) j (suc n) 0 (omega (arith, nodes-length T C (i + 1) n)))
+            | no e ↦ rw (ne-eqb (columnAt p n) j e) (getD-set-other (nodesIn T C (i + 1) n) (columnAt p n) j (suc n) 0 (λ q. e (sym q)))
+          ]
+      go false = refl
 
   -- a column has a node of the row where the row has a cell
   pub some-at : (i j n : ℕ) → j < 256 → n ≤ length p → some (nodesIn T C (i + 1) n) j ≡ atColumn j (inRow (each (cellAt p) n) i)
@@ -133,16 +126,7 @@ module _ (p : List Node) (T C : List ℕ) (dep : (k : ℕ) → k < length p → 
 
 -- no node is above the first row
 none-first : (T C : List ℕ) (n j : ℕ) → j < 256 → getD (nodesIn T C 0 n) j 0 ≡ 0
-unfolding nodesIn pick
-none-first T C zero j h = replicate-at 256 0 j h
-none-first T C (suc n) j h =
-    rw (ne-eqb (depthIn T n + 1) 0 (λ q. omega arith))
-    (elim (ℕ-discrete j (getD C n 0)) [
-      | yes e ↦
-          rw (← e)
-          (getD-set-same (nodesIn T C 0 n) j (getD (nodesIn T C 0 n) j 0) 0 (omega (arith, nodes-length T C 0 n)) ∙ none-first T C n j h)
-      | no e ↦ getD-set-other (nodesIn T C 0 n) (getD C n 0) j (getD (nodesIn T C 0 n) (getD C n 0) 0) 0 e ∙ none-first T C n j h
-    ])
+none-first T C n j h = rw (← nodes-none T C n) (replicate-at 256 0 j h)
 
 pub none-above : (T C : List ℕ) (n j : ℕ) → j ≤ 256 → seenTo (nodesIn T C 0 n) j ≡ false
 unfolding seenTo

@@ -7,14 +7,13 @@ use lib.Dec.{ltb, eqb}
 use lib.ListN.{getD, set, replicate}
 use Rattle.rules.specs.Base.{pick}
 use Rattle.rules.specs.Plan.{depthIn}
-use Rattle.bands.specs.declared.row.Row.{Row}
 
 -- of the first n nodes those of the row above row `under`: k + 1 in the column of node k, 0 where there is none
 unfoldable pub nodesIn : (table column : List ℕ) (under n : ℕ) → List ℕ
 nodesIn table column under zero = replicate 256 0
 nodesIn table column under (suc k) =
     let l = nodesIn table column under k in
-    set l (getD column k 0) (pick (eqb (depthIn table k + 1) under) (suc k) (getD l (getD column k 0) 0))
+    pick (eqb (depthIn table k + 1) under) (set l (getD column k 0) (suc k)) l
 
 -- there is a node in column j
 abbrev pub some : List ℕ → ℕ → Bool
@@ -41,6 +40,20 @@ endIn starts n last k = pick (ltb (k + 1) n) (getD starts (k + 1) 0) last
 -- where the lines of row i of n bend
 unfoldable pub bendIn : (ys : List ℕ) (n height i : ℕ) → ℕ
 bendIn ys n height i = pick (ltb (i + 1) n) (getD ys (i + 1) 0 - 2) (height + 1)
+
+-- the nodes of the row above, of the row and of the next one, where its lines go on to the right; and where it begins, ends, bends and has its middle
+pub record Row : Type 0 where
+  pub above : List ℕ
+  pub here : List ℕ
+  pub next : List ℕ
+  pub on : List ℕ
+  pub top : ℕ
+  pub end : ℕ
+  pub bend : ℕ
+  pub middle : ℕ
+
+abbrev pub rowBy : (above here next on : List ℕ) (top end bend middle : ℕ) → Row
+rowBy above here next on top end bend middle = record { above = above; here = here; next = next; on = on; top = top; end = end; bend = bend; middle = middle }
 
 -- row i of a table
 pub record RowOf (table : List ℕ) (nodes : ℕ) (column : List ℕ) (ncols : ℕ) (cy ys : List ℕ) (nrows height i : ℕ) (r : Row) : Type 0 where

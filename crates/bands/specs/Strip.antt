@@ -11,8 +11,7 @@ use Rattle.rules.proofs.Candidate.{from}
 use Rattle.marks.specs.Alike.{alikeIn}
 use Rattle.marks.specs.Spot.{Spot, spotMark}
 use Rattle.tree_view.specs.Box.{leftOf, topOf, rightOf, bottomOf}
-use Rattle.bands.specs.declared.row.Row.{Row}
-use Rattle.bands.specs.Row.{some, seenTo, endIn}
+use Rattle.bands.specs.Row.{Row, some, seenTo, endIn}
 
 -- what a list has of node k - 1; 0 where k is 0
 unfoldable pub sizeOf : List ℕ → ℕ → ℕ

@@ -6,9 +6,8 @@ ghost use lib.Dec.{eqb};
 ghost use lib.ListN.{length};
 ghost use Rattle.rules.specs.Base.{halfUp};
 ghost use Rattle.field.specs.Fits.{plain};
-ghost use Rattle.bands.specs.Row.{endIn};
+ghost use Rattle.bands.specs.Row.{rowBy, endIn};
 ghost use Rattle.bands.specs.Strip.{sizeOf, spotBy, stripsSame, Apt};
-use crate::row::Row;
 use field::Spot;
 
 // Where column j ends: where the next one begins, the last with the canvas.
@@ -65,43 +64,50 @@ fn spot_of(
 }
 
 // The marks in all columns of a row are those of their spots.
-pub fn columns_same(
+pub(crate) fn columns_same(
     cells: &[u32],
     width: u32,
-    row: Row,
+    above: &[u16; 256],
+    here: &[u16; 256],
+    next: &[u16; 256],
+    on: &[u16; 256],
+    top: u32,
+    end: u32,
+    bend: u32,
+    middle: u32,
     lines: &[u32; 256],
     longest: &[u32; 256],
     cx: &[u32; 256],
     xs: &[u32; 256],
     ncols: u32,
 ) -> bool
-    requires { ⌜ (row .end * width ≤ length (now cells)) × (row .top ≤ row .bend) × (ncols ≤ 256) ⌝ }
-    requires { ⌜ ((j : ℕ) → j < ncols → Apt width row (now lines) (now longest) (now cx) (now xs) ncols j) ⌝ }
-    ensures { λ r. ⌜ r ≡ stripsSame (now (cells .entry)) width row (now (lines .entry)) (now (longest .entry)) (now (cx .entry)) (now (xs .entry)) ncols ncols ⌝ }
+    requires { ⌜ (end * width ≤ length (now cells)) × (top ≤ bend) × (ncols ≤ 256) ⌝ }
+    requires { ⌜ ((j : ℕ) → j < ncols → Apt width (rowBy (now above) (now here) (now next) (now on) top end bend middle) (now lines) (now longest) (now cx) (now xs) ncols j) ⌝ }
+    ensures { λ r. ⌜ r ≡ stripsSame (now (cells .entry)) width (rowBy (now (above .entry)) (now (here .entry)) (now (next .entry)) (now (on .entry)) top end bend middle) (now (lines .entry)) (now (longest .entry)) (now (cx .entry)) (now (xs .entry)) ncols ncols ⌝ }
 {
     let n = text::wide(ncols);
     let mut seen = false;
     let mut over = false;
     let mut j = 0;
     while j < n {
-        let k = row.here[j];
+        let k = here[j] as usize;
         seen = seen | (k != 0);
-        over = over | (row.above[j] != 0);
-        let child = seen & (row.next[j] != 0);
-        let on = seen & (row.on[j] != 0);
+        over = over | (above[j] != 0);
+        let child = seen & (next[j] != 0);
+        let onward = seen & (on[j] != 0);
         let s = spot_of(
             k,
             over & (k != 0),
             child,
-            on,
-            row.bend,
+            onward,
+            bend,
             cx[j],
-            row.middle,
+            middle,
             size_of(lines, k),
             size_of(longest, k),
         );
         let b = column_end(xs, ncols, j, width);
-        if field::block_same(cells, width, s, xs[j], b, row.top, row.end) {
+        if field::block_same(cells, width, s, xs[j], b, top, end) {
             j += 1;
         } else {
             return false;

@@ -9,12 +9,16 @@ ghost use Rattle.marks.specs.Alike.{alikeIn};
 ghost use Rattle.marks.specs.Whole.{markAt};
 ghost use Rattle.sight.specs.Seen.{seen};
 ghost use Rattle.sight.specs.Plan.{planSeen};
+ghost use Rattle.bands.specs.Row.{nodesIn};
 ghost use Rattle.bands.specs.Parts.{rowFrom};
 ghost use Rattle.bands.specs.Ready.{Ready};
 use crate::across::columns_same;
-use crate::row::row_at;
+use crate::nodes::onward;
+use crate::nodes::row_cells;
+use crate::row::row_bend;
+use crate::row::row_end;
 
-// The band of row i and the gap under it are as they are drawn, right of the axis.
+// The band of row i and the gap under it are as they are drawn, right of the axis; `above` and `here` are the nodes of the row above and of row i, and `next` becomes those of the next.
 fn band_same(
     cells: &[u32],
     width: u32,
@@ -31,15 +35,41 @@ fn band_same(
     ys: &[u32; 32],
     nrows: u32,
     i: u32,
+    above: &[u16; 256],
+    here: &[u16; 256],
+    next: &mut [u16; 256],
+    on: &mut [u16; 256],
 ) -> bool
-    requires { ⌜ (width * height ≤ length (now cells)) × (i < nrows) ⌝ }
+    requires { ⌜ (width * height ≤ length (now cells)) × (i < nrows) × (length (now on) ≡ 256) ⌝ }
+    requires { ⌜ (now above ≡ nodesIn (now table) (now column) i nodes) × (now here ≡ nodesIn (now table) (now column) (i + 1) nodes) ⌝ }
     requires { ⌜ Ready (planSeen (now cells) width height) (seen (now cells) width height) width height (now table) nodes (now column) (now lines) (now longest) (now cx) (now xs) ncols (now cy) (now ys) nrows ⌝ }
     ensures { λ r. ⌜ r ≡ alikeIn (seen (now (cells .entry)) width height) (markAt length boxes (view (planSeen (now (cells .entry)) width height)))
         (d (view (planSeen (now (cells .entry)) width height)) + 4) width
         (rowFrom (view (planSeen (now (cells .entry)) width height)) i) (rowFrom (view (planSeen (now (cells .entry)) width height)) (i + 1)) ⌝ }
+    ensures { λ r. ⌜ (now (next .exit) ≡ nodesIn (now (table .entry)) (now (column .entry)) (i + 2) nodes) × (length (now (on .exit)) ≡ 256) ⌝ }
 {
-    let row = row_at(table, nodes, column, ncols, cy, ys, nrows, height, i);
-    columns_same(cells, width, row, lines, longest, cx, xs, ncols)
+    row_cells(table, nodes, column, i + 2, next);
+    onward(here, next, ncols, on);
+    let k = text::wide(i);
+    let end = row_end(ys, nrows, i, height);
+    let bend = row_bend(ys, nrows, i, height);
+    columns_same(
+        cells,
+        width,
+        above,
+        here,
+        next,
+        on,
+        ys[k],
+        end,
+        bend,
+        cy[k],
+        lines,
+        longest,
+        cx,
+        xs,
+        ncols,
+    )
 }
 
 // All bands and gaps are as they are drawn of the only plan that can have been drawn, right of the axis.
@@ -64,6 +94,11 @@ pub fn bands_same(
     ensures { λ r. ⌜ r ≡ alikeIn (seen (now (cells .entry)) width height) (markAt length boxes (view (planSeen (now (cells .entry)) width height)))
         (d (view (planSeen (now (cells .entry)) width height)) + 4) width 3 height ⌝ }
 {
+    let mut above = [0u16; 256];
+    let mut here = [0u16; 256];
+    let mut next = [0u16; 256];
+    let mut on = [0u16; 256];
+    row_cells(table, nodes, column, 1, &mut here);
     let mut i = 0;
     while i < nrows {
         if band_same(
@@ -82,7 +117,13 @@ pub fn bands_same(
             ys,
             nrows,
             i,
+            &above,
+            &here,
+            &mut next,
+            &mut on,
         ) {
+            above = here;
+            here = next;
             i += 1;
         } else {
             return false;

@@ -1,15 +1,15 @@
 -- Cells by fours and sixteens: the bytes of sixteen are those of four fours, and a four of plain cells, or of marks ─, is known at sight.
 use mathlib.Core.Path.{_≡_, refl, ap, _∙_}
 use mathlib.Core.List.{List, [], _∷_, _++_}
-use Prim.Native.Nat.{ℕ, _+_, _-_, _/_, _%_, _≤_, _<_}
+use Prim.Native.Nat.{ℕ, suc, zero, _+_, _-_, _*_, _/_, _%_, _≤_, _<_}
 use native.Mathlib.Nat.{add-zero, add-assoc}
 use native.Mathlib.Omega.{arith}
-use lib.ListN.{length, getD}
+use lib.ListN.{length, getD, length-append}
 use lib.Seq.{sets}
 use Rattle.rules.specs.Base.{each, pick}
 use Rattle.rules.specs.Utf8.{utf8}
 use Rattle.rules.proofs.Chars.{utf8-one, utf8-three}
-use Rattle.rules.proofs.Text.{each-next, each-room, each-rises}
+use Rattle.rules.proofs.Text.{each-next, each-room, each-rises, each-bound, utf8-some}
 use Rattle.canvas_text.specs.Emit.{rowOf, fourAt, Same, Plain, cellsIn, lineBytes, bytesTo, bytesIn}
 use Rattle.canvas_text.specs.declared.emit.Four.{Four}
 use Rattle.canvas_text.proofs.EmitRow.{stored}
@@ -29,6 +29,37 @@ module _ (row : List ℕ) (x n : ℕ) where
   pub to-add : bytesTo row (x + n) ≡ bytesTo row x ++ bytesIn row x n
   unfolding bytesTo bytesIn rowOf
   to-add = each-add (λ k. utf8 (getD row k 0)) x n
+
+-- the bytes of n cells from x on: at most four each
+pub in-bound : (row : List ℕ) (x n : ℕ) → length (bytesIn row x n) ≤ 4 * n
+unfolding bytesIn rowOf
+in-bound row x n = omega (arith, each-bound (λ k. utf8 (getD row (x + k) 0)) n 4 (λ k h. utf8-some (getD row (x + k) 0) .1))
+
+-- one each where all are plain
+pub plain-length : (row : List ℕ) (x n : ℕ) → ((k : ℕ) → x ≤ k → k < x + n → getD row k 0 < 0x80) → length (bytesIn row x n) ≡ n
+unfolding bytesIn each
+plain-length row x zero h = refl
+plain-length row x (suc n) h =
+    let e : suc n ≡ n + 1 = omega arith in
+    let l = simp length-append at (ap length (in-next row x n)) in
+    ap (λ (m : ℕ). length (bytesIn row x m)) e ∙ omega (arith, l, plain-length row x n (λ k a b. h k a (omega arith)), ap length (utf8-one (getD row (x + n) 0) (h (x + n) (omega arith) (omega arith))))
+
+-- cells up to x counted as one byte each and s more, and the cell at x as one and m more
+pub more-next : (row : List ℕ) (from x s m : ℕ) → from ≤ x → s + (x - from) ≡ length (bytesIn row from (x - from)) → m + 1 ≡ length (utf8 (getD row x 0))
+    → s + m + (x + 1 - from) ≡ length (bytesIn row from (x + 1 - from))
+more-next row from x s m h e f =
+    let j : x + 1 - from ≡ (x - from) + 1 = omega arith in
+    let k : from + (x - from) ≡ x = omega arith in
+    let l = simp length-append at (ap length (in-next row from (x - from))) in
+    rw j (omega (arith, e, f, rw k at l))
+
+-- the same of the cells before x, and n more
+pub more-part : (row : List ℕ) (x n s m : ℕ) → x + s ≡ length (bytesTo row x) → m + n ≡ length (bytesIn row x n) → (x + n) + (s + m) ≡ length (bytesTo row (x + n))
+more-part row x n s m e f = omega (arith, e, f, simp length-append at (ap length (to-add row x n)))
+
+-- the same of the cells before x, and all the others before e
+pub more-whole : (row : List ℕ) (x e s m : ℕ) → x ≤ e → x + s ≡ length (bytesTo row x) → m + (e - x) ≡ length (bytesIn row x (e - x)) → e + (s + m) ≡ length (bytesTo row e)
+more-whole row x e s m h p q = let k : x + (e - x) ≡ e = omega arith in rw k at (more-part row x (e - x) s m p q)
 
 -- the cells before x, and all the others before e
 pub to-end : (row : List ℕ) (x e : ℕ) → x ≤ e → bytesTo row e ≡ bytesTo row x ++ bytesIn row x (e - x)

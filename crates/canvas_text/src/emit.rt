@@ -2,7 +2,7 @@
 ghost use mathlib.Core.Path.{_≡_};
 ghost use mathlib.Core.Bool.{true};
 ghost use mathlib.Core.List.{_++_};
-ghost use Prim.Native.Nat.{ℕ, _+_, _*_, _<_, _≤_};
+ghost use Prim.Native.Nat.{ℕ, _+_, _-_, _*_, _<_, _≤_};
 ghost use lib.ListN.{length, getD};
 ghost use lib.Seq.{sets};
 ghost use Rattle.rules.specs.Base.{laid};
@@ -132,6 +132,45 @@ fn more(v: u32) -> u32
     over(v, 0x80) + over(v, 0x800) + over(v, 0x10000)
 }
 
+// The bytes of the cells from `from` on, before `to`, after their first ones.
+fn more_in(row: &[u32], from: usize, to: usize) -> u32
+    requires { ⌜ (from ≤ to) × (to ≤ length (now row)) × (to ≤ 1048576) ⌝ }
+    ensures { λ r. ⌜ r + (to - from) ≡ length (bytesIn (now (row .entry)) from (to - from)) ⌝ }
+{
+    let mut sum = 0;
+    let mut x = from;
+    while x < to {
+        sum += more(row[x]);
+        x += 1;
+    }
+    sum
+}
+
+// The cells from `from` on, before `to`, take one byte each, if it says so. (No branch in the loop: so it is done four cells at a time.)
+fn plain_in(row: &[u32], from: usize, to: usize) -> bool
+    requires { ⌜ to ≤ length (now row) ⌝ }
+    ensures { λ r. ⌜ (r ≡ true → (x : ℕ) → from ≤ x → x < to → getD (now (row .entry)) x 0 < 0x80) ⌝ }
+{
+    let mut plain = true;
+    let mut x = from;
+    while x < to {
+        plain = plain & (row[x] < 0x80);
+        x += 1;
+    }
+    plain
+}
+
+// The bytes of the 64 cells from x on after their first ones: none where all are plain, as most are.
+fn more_at(row: &[u32], x: usize) -> u32
+    requires { ⌜ (x + 64 ≤ length (now row)) × (x + 64 ≤ 1048576) ⌝ }
+    ensures { λ r. ⌜ r + 64 ≡ length (bytesIn (now (row .entry)) x 64) ⌝ }
+{
+    if plain_in(row, x, x + 64) {
+        return 0;
+    }
+    more_in(row, x, x + 64)
+}
+
 // The bytes of the first `end` cells of a row.
 pub fn bytes_to(row: &[u32], end: usize) -> usize
     requires { ⌜ (end ≤ length (now row)) × (end ≤ 1048576) ⌝ }
@@ -139,11 +178,11 @@ pub fn bytes_to(row: &[u32], end: usize) -> usize
 {
     let mut sum = 0;
     let mut x = 0;
-    while x < end {
-        sum += more(row[x]);
-        x += 1;
+    while 64 <= end - x {
+        sum += more_at(row, x);
+        x += 64;
     }
-    end + text::wide(sum)
+    end + text::wide(sum + more_in(row, x, end))
 }
 
 // The bytes of a row's text and its 0A.

@@ -5,46 +5,42 @@ use mathlib.Core.Bool.{true}
 use mathlib.Core.List.{List, [], _∷_, _++_, append-assoc, append-nil}
 use Prim.Native.Nat.{ℕ, _+_, _-_, _≤_, _<_, max}
 use native.Mathlib.Omega.{arith}
-use lib.ListN.{length, take, drop, getD, replicate, length-append, length-drop, drop-of-length-le, length-replicate, replicate-append-replicate}
-use lib.Seq.{sets, sets-eq, take-at, drop-at, take-add, drop-drop, drop-cons, length-take-le}
+use lib.ListN.{length, take, drop, getD, replicate, length-append, length-drop, drop-of-length-le}
+use lib.Seq.{sets, sets-eq, length-sets, take-at, drop-at, take-add, drop-drop, drop-cons, length-take-le}
 use borrow.Rule.Slice.PartMut.{putMid}
 use Rattle.rules.specs.Base.{concat, greatest, laid}
 use Rattle.rules.specs.Utf8.{valid, points}
 use Rattle.rules.specs.Lines.{linesOf}
-use Rattle.rules.proofs.Lines.{lent-line, linesOf-some}
-use Rattle.rules.proofs.LinesValid.{here-valid}
+use Rattle.rules.proofs.Lines.{linesOf-some}
+use Rattle.rules.proofs.Lists.{sets-append}
 use Rattle.marks.proofs.Cells.{pad-length}
+use Rattle.canvas.proofs.Runs.{enough}
 use Rattle.lay.specs.Rows.{codes, rowOf, rows}
+use Rattle.lay.proofs.Walk.{Line, line-at}
 
--- one row: all spaces, and then the code points from its start on
+-- one row: the code points from its start on, and spaces behind them
 sets-front : (l vs : List ℕ) → length vs ≤ length l → sets l 0 vs ≡ vs ++ drop (length vs) l
 sets-front l vs h =
     let n : 0 + length vs ≡ length vs = omega arith in
     sets-eq vs l 0 (omega arith) ∙ ap (λ (k : ℕ). vs ++ drop k l) n
 
-abbrev spaces : ℕ → List ℕ
-spaces n = replicate n 0x20
-
-spaces-length : (n : ℕ) → length (spaces n) ≡ n
-spaces-length n = length-replicate {A = ℕ} n 0x20
-
-drop-spaces : (m n : ℕ) → m ≤ n → drop m (spaces n) ≡ spaces (n - m)
-drop-spaces m n h =
-    let e : m + (n - m) ≡ n = omega arith in
-    ap (λ (k : ℕ). drop m (spaces k)) (sym e)
-    ∙ ap (drop m) (sym (replicate-append-replicate {A = ℕ} m (n - m) 0x20))
-    ∙ drop-at (spaces m) (spaces (n - m)) m (spaces-length m)
-
-pub row-laid : (row void after line : List ℕ) → codes line ≤ length row
-    → void ≡ sets row 0 (replicate (length row) 0x20) → after ≡ sets void 0 (points line) → after ≡ rowOf (length row) line
+pub row-laid : (row put after line : List ℕ) (k : ℕ) → codes line ≤ length row → k ≡ codes line
+    → put ≡ sets row 0 (points line) → after ≡ sets put k (replicate (length row) 0x20) → after ≡ rowOf (length row) line
 unfolding codes rowOf
-row-laid row void after line h a b =
+row-laid row put after line k h i a b =
     let n = length row in
-    let d : drop (length (spaces n)) row ≡ [] = drop-of-length-le row {i = length (spaces n)} (omega (arith, spaces-length n)) in
-    let s : void ≡ spaces n = a ∙ sets-front row (spaces n) (omega (arith, spaces-length n)) ∙ rw d (append-nil (spaces n)) in
+    let ps = points line in
+    let all = ps ++ replicate (n - length ps) 0x20 in
+    let m : length all ≡ n = pad-length ps n h in
+    let d : drop (length all) row ≡ [] = drop-of-length-le row {i = length all} (omega arith) in
+    let z : 0 + length ps ≡ k = omega arith in
+    let rest : sets put k (replicate (n - k) 0x20) ≡ sets (sets row 0 ps) (0 + length ps) (replicate (n - length ps) 0x20) = rw (a, z, i) in
     b
-    ∙ rw s (sets-front (spaces n) (points line) (omega (arith, spaces-length n)))
-    ∙ ap (λ (k : List ℕ). points line ++ k) (drop-spaces (length (points line)) n h)
+    ∙ sym (enough put k n n 0x20 (omega (arith, ap length a, length-sets row 0 ps)))
+    ∙ rest
+    ∙ sym (sets-append row 0 ps (replicate (n - length ps) 0x20))
+    ∙ sets-front row all (omega arith)
+    ∙ rw d (append-nil all)
 
 -- the next row of those that are left, the line's
 pub record NextRow (Q : List ℕ) (from w : ℕ) (line : List ℕ) (tl : List (List ℕ)) : Type 0 where
@@ -69,39 +65,37 @@ next-row Q from w line tl ls e h g d =
       rest = sym (drop-drop w from Q) ∙ ap (drop w) q ∙ drop-at (rowOf w line) (rows w tl) w n;
     }
 
--- the line at `at`, as the walk finds it, and its row
-pub record Laying (Q bytes line : List ℕ) (at from w : ℕ) : Type 0 where
-  pub fits : at + length line ≤ length bytes
-  pub sound : valid line ≡ true
-  pub narrow : codes line ≤ w
+-- the line from `at` up to e, as the walk finds it, and its row
+pub record Laying (Q bytes : List ℕ) (at e from w : ℕ) : Type 0 where
+  pub line : Line bytes at e
+  pub narrow : codes (take (e - at) (drop at bytes)) ≤ w
   pub room : from + w ≤ length Q
-  pub part : take w (drop from Q) ≡ rowOf w line
-  pub last : at + length line ≡ length bytes → from + w ≡ length Q
-  pub next : at + length line < length bytes
-      → (valid (drop (at + length line + 1) bytes) ≡ true)
-      × (greatest codes (linesOf (drop (at + length line + 1) bytes)) ≤ w)
-      × (drop (from + w) Q ≡ rows w (linesOf (drop (at + length line + 1) bytes)))
+  pub part : take w (drop from Q) ≡ rowOf w (take (e - at) (drop at bytes))
+  pub last : e ≡ length bytes → from + w ≡ length Q
+  pub next : e < length bytes
+      → (valid (drop (e + 1) bytes) ≡ true)
+      × (greatest codes (linesOf (drop (e + 1) bytes)) ≤ w)
+      × (drop (from + w) Q ≡ rows w (linesOf (drop (e + 1) bytes)))
 
-pub laying : (Q bytes line : List ℕ) (at from w : ℕ) → at ≤ length bytes → valid (drop at bytes) ≡ true
+pub laying : (Q bytes : List ℕ) (at e from w : ℕ) → at ≤ length bytes → valid (drop at bytes) ≡ true
     → greatest codes (linesOf (drop at bytes)) ≤ w → from ≤ length Q → drop from Q ≡ rows w (linesOf (drop at bytes))
-    → line ≡ getD (linesOf (take (length bytes - at) (drop at bytes))) 0 [] → Laying Q bytes line at from w
+    → e ≡ at + length (getD (linesOf (drop at bytes)) 0 []) → Laying Q bytes at e from w
 unfolding rows concat
-laying Q bytes line at from w h v g f d i =
-    let k = lent-line bytes line at h i in
-    let u = here-valid bytes line at k v in
+laying Q bytes at e from w h v g f d i =
+    let k = line-at bytes at e h v i in
+    let l = take (e - at) (drop at bytes) in
     let ls = linesOf (drop at bytes) in
-    let e : ls ≡ line ∷ drop 1 ls = drop-cons ls 0 [] (linesOf-some (drop at bytes)) ∙ ap (λ (l : List ℕ). l ∷ drop 1 ls) (sym (k .is)) in
-    let r = next-row Q from w line (drop 1 ls) ls e f g d in
+    let q : ls ≡ l ∷ drop 1 ls = drop-cons ls 0 [] (linesOf-some (drop at bytes)) ∙ ap (λ (x : List ℕ). x ∷ drop 1 ls) (k .first) in
+    let r = next-row Q from w l (drop 1 ls) ls q f g d in
     record {
-      fits = k .fits;
-      sound = u .0;
+      line = k;
       narrow = r .narrow;
       room = r .room;
       part = r .part;
-      last = λ b. (let z : drop (from + w) Q ≡ [] = r .rest ∙ ap (λ (l : List (List ℕ)). rows w (drop 1 l)) (k .only b) in
+      last = λ b. (let z : drop (from + w) Q ≡ [] = r .rest ∙ ap (λ (x : List (List ℕ)). rows w (drop 1 x)) (k .last b) in
           omega (arith, ap length z, length-drop (from + w) Q, r .room));
-      next = λ b. (let t : drop 1 ls ≡ linesOf (drop (at + length line + 1) bytes) = ap (drop 1) (k .more b) in
-          (u .1 b, rw t at (r .narrow-rest), r .rest ∙ ap (rows w) t));
+      next = λ b. (let t : drop 1 ls ≡ linesOf (drop (e + 1) bytes) = ap (drop 1) (k .more b) in
+          (k .onward b, rw t at (r .narrow-rest), r .rest ∙ ap (rows w) t));
     }
 
 -- the row that is lent is as wide as all

@@ -1,7 +1,6 @@
 pub mod Split
-pub mod Counts
+pub mod Walk
 pub mod Pictures
-pub mod Spaces
 pub mod Laying
 pub mod Unspaced
 pub mod Starts

@@ -1,23 +1,18 @@
--- Bytes that are passed in a run: below 80 each is a code point of its own, and without a byte 0A there is no line more and no line's end.
-use mathlib.Core.Path.{_≡_, refl, ap, sym, _∙_}
-use mathlib.Core.Bool.{Bool, true, false, _&&_, _||_}
+-- A line that is being written to a row: in a run of bytes below 80 each is a code point of its own, and what is written and what is
+-- to come are all.
+use mathlib.Core.Path.{_≡_, ap, sym, _∙_}
 use mathlib.Core.List.{List, [], _∷_, _++_}
 use Prim.Native.Nat.{ℕ, suc, zero, _+_, _-_, _≤_, _<_}
 use native.Mathlib.Numerals.{add-one}
 use native.Mathlib.Omega.{arith}
-use lib.Dec.{eqb}
 use lib.ListN.{length, getD, take, drop, set, length-set, length-append, length-drop, drop-of-length-le}
 use lib.Seq.{drop-cons, sets, length-sets, length-take-le}
-use borrow.Author.Tests.{ne-eqb}
 use Rattle.rules.specs.Utf8.{valid, points}
-use Rattle.rules.specs.Lines.{linesOf}
 use Rattle.rules.proofs.Chars.{points-one, valid-one, following-00}
 use Rattle.rules.proofs.FirstChar.{CharHere}
 use Rattle.rules.proofs.Lists.{sets-append}
 use Rattle.text.specs.Within.{Within}
-use Rattle.lay.specs.Spaced.{spacedAfter}
 use Rattle.lay.specs.Left.{Left}
-use Rattle.lay.proofs.Counts.{line-same}
 
 module _ (s : List ℕ) where
   -- n bytes below 80 from a on are the next n code points
@@ -38,35 +33,16 @@ module _ (s : List ℕ) where
       ∙ valid-one (getD s a 0) (drop (suc a) s) (following-00 (getD s a 0) (omega (arith, w a (omega arith) (omega arith) .1)))
       ∙ low-valid (suc a) n (omega arith) (λ k l r. w k (omega arith) (omega arith)) ∙ rw e
 
-  -- no byte 0A, no line
-  pub no-line : (a n : ℕ) → a + n ≤ length s → Within s 11 255 a (a + n) → length (linesOf (drop a s)) ≡ length (linesOf (drop (a + n) s))
-  no-line a zero h w = let e : a + 0 ≡ a = omega arith in rw e
-  no-line a (suc n) h w =
-      let e : a + suc n ≡ a + 1 + n = omega arith in
-      line-same s a (omega arith) (λ z. omega (arith, w a (omega arith) (omega arith) .0)) ∙ no-line (a + 1) n (omega arith) (λ k l r. w k (omega arith) (omega arith)) ∙ rw e
-
-  -- and no line's end
-  pub no-end : (a n : ℕ) → 1 ≤ a → a + n ≤ length s → Within s 11 255 a (a + n)
-      → spacedAfter (getD s (a - 1) 0) (drop a s) ≡ spacedAfter (getD s (a + n - 1) 0) (drop (a + n) s)
-  unfolding spacedAfter
-  no-end a zero l h w = let e : a + 0 ≡ a = omega arith in rw e
-  no-end a (suc n) l h w =
-      let e : a + suc n ≡ a + 1 + n = omega arith in
-      let z : a + 1 - 1 ≡ a = omega arith in
-      let q : eqb (getD s a 0) 10 ≡ false = ne-eqb (getD s a 0) 10 (λ y. omega (arith, w a (omega arith) (omega arith) .0)) in
-      let one : spacedAfter (getD s (a - 1) 0) (drop a s) ≡ spacedAfter (getD s a 0) (drop (a + 1) s) = rw (add-one, drop-cons s a 0 (omega arith), q) in
-      rw e (one ∙ (rw z at (no-end (a + 1) n (omega arith) (omega arith) (λ k l r. w k (omega arith) (omega arith)))))
-
   -- the next byte to copy
   pub next-byte : (a n : ℕ) → a < length s → 0 < n → take n (drop a s) ≡ getD s a 0 ∷ take (n - 1) (drop (a + 1) s)
   next-byte a zero h k = absurd (omega arith)
   next-byte a (suc n) h k = let e : suc n - 1 ≡ n = omega arith in rw (e, add-one, drop-cons s a 0 h)
 
 -- ---- a line being written to a row
-module _ {all : List ℕ} {n : ℕ} (row line : List ℕ) (at k : ℕ) (f : Left all n row line at k) where
+module _ {all : List ℕ} {n m : ℕ} (row line : List ℕ) (at k : ℕ) (f : Left all n m row line at k) where
   -- a run of bytes below 80 is copied
   pub left-run : (to : ℕ) (new : List ℕ) → at ≤ to → to ≤ length line → Within line 0 0x7F at to → new ≡ sets row k (take (to - at) (drop at line))
-      → Left all n new line to (k + (to - at))
+      → Left all n m new line to (k + (to - at))
   left-run to new h l w e =
       let z : at + (to - at) ≡ to = omega arith in
       let p = rw z at (low-points line at (to - at) (omega arith) (rw z w)) in
@@ -75,6 +51,7 @@ module _ {all : List ℕ} {n : ℕ} (row line : List ℕ) (at k : ℕ) (f : Left
         here = l;
         rest = sym (rw z at (low-valid line at (to - at) (omega arith) (rw z w))) ∙ f .rest;
         room = omega (arith, f .room, ap length p, length-append (take (to - at) (drop at line)) (points (drop to line)), ap length e, length-sets row k (take (to - at) (drop at line)));
+        count = sym (omega (arith, ap length p, length-append (take (to - at) (drop at line)) (points (drop to line)))) ∙ f .count;
         long = ap length e ∙ length-sets row k (take (to - at) (drop at line)) ∙ f .long;
         same = f .same ∙ ap (sets row k) p ∙ sets-append row k (take (to - at) (drop at line)) (points (drop to line)) ∙ rw (z′, e);
       }
@@ -87,24 +64,34 @@ module _ {all : List ℕ} {n : ℕ} (row line : List ℕ) (at k : ℕ) (f : Left
       omega (arith, f .room, ap length p, length-append (take (to - at) (drop at line)) (points (drop to line)))
 
   -- one code point is written
-  pub left-char : (v m : ℕ) → CharHere line at v m → Left all n (set row k v) line (at + m) (k + 1)
-  left-char v m c = record {
+  pub left-char : (v size : ℕ) → CharHere line at v size → Left all n m (set row k v) line (at + size) (k + 1)
+  left-char v size c = record {
     here = c .fits;
     rest = c .rest;
     room = omega (arith, f .room, ap length (c .next), length-set row k v);
+    count = omega (arith, ap length (c .next), f .count);
     long = length-set row k v ∙ f .long;
     same = f .same ∙ rw (c .next, add-one k);
   }
 
-  pub char-fits : (v n : ℕ) → CharHere line at v n → k < length row
-  char-fits v n c = omega (arith, f .room, ap length (c .next))
+  pub char-fits : (v size : ℕ) → CharHere line at v size → k < length row
+  char-fits v size c = omega (arith, f .room, ap length (c .next))
 
   -- nothing is left
-  pub left-none : length line ≤ at → row ≡ all
+  pub left-none : length line ≤ at → (k ≡ m) × (row ≡ all)
   unfolding points
-  left-none h = sym (f .same ∙ ap (λ (l : List ℕ). sets row k (points l)) (drop-of-length-le line {i = at} h))
+  left-none h =
+      let z : drop at line ≡ [] = drop-of-length-le line {i = at} h in
+      (omega (arith, f .count, ap (λ (l : List ℕ). length (points l)) z), sym (f .same ∙ rw z))
 
 -- a part of it that another has written
-pub left-on : {all : List ℕ} {n : ℕ} (row line : List ℕ) (at k : ℕ) → Left all n row line at k → {row′ : List ℕ} {at′ k′ : ℕ}
-    → Left (sets row k (points (drop at line))) (length row) row′ line at′ k′ → Left all n row′ line at′ k′
-left-on row line at k f g = record { here = g .here; rest = g .rest; room = g .room; long = g .long ∙ f .long; same = f .same ∙ g .same }
+pub left-on : {all : List ℕ} {n m : ℕ} (row line : List ℕ) (at k : ℕ) → Left all n m row line at k → {row′ : List ℕ} {at′ k′ : ℕ}
+    → Left (sets row k (points (drop at line))) (length row) (k + length (points (drop at line))) row′ line at′ k′ → Left all n m row′ line at′ k′
+left-on row line at k f g = record {
+  here = g .here;
+  rest = g .rest;
+  room = g .room;
+  count = g .count ∙ f .count;
+  long = g .long ∙ f .long;
+  same = f .same ∙ g .same;
+}

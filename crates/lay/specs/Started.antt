@@ -1,7 +1,7 @@
 -- The reader's first refusals, in the rules' order, and what follows them.
 use mathlib.Core.Path.{_≡_}
 use mathlib.Core.List.{List}
-use mathlib.Core.Bool.{true, not}
+use mathlib.Core.Bool.{Bool, true, not}
 use Prim.Native.Nat.{ℕ}
 use lib.Dec.{ltb}
 use lib.ListN.{length}
@@ -10,6 +10,7 @@ use Rattle.rules.specs.Utf8.{valid}
 use Rattle.rules.specs.Plan.{mostCells}
 use Rattle.rules.specs.Reader.{ended, pictureLines, pictureWidth, pictureArea, placed, canvasRead}
 use Rattle.rules.specs.declared.Reading.{Reading}
+use Rattle.lay.specs.Spaced.{spaced}
 
 -- LARGE and CANVAS
 unfoldable pub sized : List ℕ → ℕ → Reading → Reading
@@ -25,9 +26,11 @@ started P cells next =
     (pick (not (ended P)) Reading.Undrawn
     (sized P cells next))
 
--- the picture P on a canvas that held `old`: the first refusal, Done 0 if there is none, what is left there, and the picture's size if it is there
-pub record Started (P old new : List ℕ) (answer : Reading) (lines width : ℕ) : Type 0 where
+-- the picture P on a canvas that held `old`: the first refusal, Done 0 if there is none, and what is left there;
+-- if the picture is there, its size, and whether some line ends in a space
+pub record Started (P old new : List ℕ) (answer : Reading) (lines width : ℕ) (spaces : Bool) : Type 0 where
   pub answered : answer ≡ started P (length old) (Reading.Done 0)
   pub left : new ≡ canvasRead P old
   pub high : placed P (length old) ≡ true → lines ≡ length (pictureLines P)
   pub wide : placed P (length old) ≡ true → width ≡ pictureWidth P
+  pub ends : placed P (length old) ≡ true → spaces ≡ spaced P

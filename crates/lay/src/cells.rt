@@ -11,6 +11,7 @@ ghost use Rattle.rules.specs.Reader.{ended, pictureWidth, pictureArea, padded};
 ghost use Rattle.lay.specs.Rows.{codes, rowOf, rows};
 ghost use Rattle.lay.specs.Left.{Left};
 use crate::size::body;
+use crate::size::line_end;
 
 // Copies the bytes from `from` up to `to` of a line, one to a cell, from cell k on.
 fn copy(row: &mut [u32], k: usize, line: &[u8], from: usize, to: usize)
@@ -34,7 +35,8 @@ struct Place {
 // Writes the code point that stands at `from`, and those after it up to a byte below 80, from cell k on.
 fn put_wide(row: &mut [u32], k: usize, line: &[u8], from: usize) -> Place
     requires { ⌜ (from < length (now line)) × (valid (drop from (now line)) ≡ true) × (k + length (points (drop from (now line))) ≤ length (now row)) ⌝ }
-    ensures { λ r. ⌜ (from < r .at) × Left (sets (now (row .entry)) k (points (drop from (now (line .entry))))) (length (now (row .entry))) (now (row .exit)) (now (line .entry)) (r .at) (r .k) ⌝ }
+    ensures { λ r. ⌜ (from < r .at) × Left (sets (now (row .entry)) k (points (drop from (now (line .entry))))) (length (now (row .entry)))
+        (k + length (points (drop from (now (line .entry))))) (now (row .exit)) (now (line .entry)) (r .at) (r .k) ⌝ }
 {
     let mut at = from;
     let mut to = k;
@@ -52,10 +54,10 @@ fn put_wide(row: &mut [u32], k: usize, line: &[u8], from: usize) -> Place
     }
 }
 
-// Writes a line's code points from the first cell on: runs of bytes below 80, and what stands between them.
-fn put_points(row: &mut [u32], line: &[u8])
+// Writes a line's code points from the first cell on, and answers how many: runs of bytes below 80, and what stands between them.
+fn put_points(row: &mut [u32], line: &[u8]) -> usize
     requires { ⌜ (valid (now line) ≡ true) × (codes (now line) ≤ length (now row)) ⌝ }
-    ensures { λ _. ⌜ now (row .exit) ≡ sets (now (row .entry)) 0 (points (now (line .entry))) ⌝ }
+    ensures { λ r. ⌜ (r ≡ codes (now (line .entry))) × (now (row .exit) ≡ sets (now (row .entry)) 0 (points (now (line .entry)))) ⌝ }
 {
     let mut at = 0;
     let mut k = 0;
@@ -64,7 +66,7 @@ fn put_points(row: &mut [u32], line: &[u8])
         copy(row, k, line, at, to);
         k += to - at;
         if to == line.len() {
-            return;
+            return k;
         }
         let p = put_wide(row, k, line, to);
         at = p.at;
@@ -72,14 +74,14 @@ fn put_points(row: &mut [u32], line: &[u8])
     }
 }
 
-// Makes a row a line's code points, and spaces.
+// Makes a row a line's code points, and spaces in the rest of it. (What `fill` puts past the row's end is dropped.)
 fn lay_row(row: &mut [u32], line: &[u8])
     requires { ⌜ (valid (now line) ≡ true) × (codes (now line) ≤ length (now row)) ⌝ }
     ensures { λ _. ⌜ now (row .exit) ≡ rowOf (length (now (row .entry))) (now (line .entry)) ⌝ }
 {
     let n = row.len();
-    canvas::fill(row, 0, n, canvas::VOID);
-    put_points(row, line);
+    let k = put_points(row, line);
+    canvas::fill(row, k, n, canvas::VOID);
 }
 
 // Makes the first cells the rows of the lines of these bytes, one after another.
@@ -90,16 +92,14 @@ fn lay_lines(cells: &mut [u32], width: usize, bytes: &[u8])
     let mut at = 0;
     let mut from = 0;
     loop {
-        let rest = &bytes[at..];
-        let line = text::next_line(rest);
+        let end = line_end(bytes, at);
         let to = from + width;
-        lay_row(&mut cells[from..to], line);
+        lay_row(&mut cells[from..to], &bytes[at..end]);
         from = to;
-        at += line.len();
-        if at == bytes.len() {
+        if end == bytes.len() {
             return;
         }
-        at += 1;
+        at = end + 1;
     }
 }
 

@@ -6,9 +6,8 @@ mod size;
 
 pub use cells::lay;
 pub use ends::ended;
-pub use ends::spaced;
 pub use place::Picture;
 pub use place::start;
+pub use size::Extent;
 pub use size::area;
-pub use size::lines;
-pub use size::longest;
+pub use size::measure_lines;

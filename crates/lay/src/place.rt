@@ -7,30 +7,34 @@ ghost use Rattle.lay.specs.Started.{Started};
 use crate::cells::lay;
 use crate::ends::ended;
 use crate::size::area;
-use crate::size::lines;
-use crate::size::longest;
+use crate::size::body;
+use crate::size::measure_lines;
 use rules::Reading;
 
-// The first refusal, Done(0) if there is none, and the size of a picture that is on the canvas.
+// The first refusal, Done(0) if there is none; and of a picture that is on the canvas its size, and whether some line ends in a space.
 pub struct Picture {
     pub answer: Reading,
     pub lines: usize,
     pub width: usize,
+    pub spaced: bool,
 }
 
 // A valid picture that is ended.
 fn start_ended(picture: &[u8], cells: &mut [u32]) -> Picture
     requires { ⌜ (valid (now picture) ≡ true) × (rule.ended (now picture) ≡ true) ⌝ }
-    ensures { λ r. ⌜ Started (now (picture .entry)) (now (cells .entry)) (now (cells .exit)) (r .answer) (r .lines) (r .width) ⌝ }
+    ensures { λ r. ⌜ Started (now (picture .entry)) (now (cells .entry)) (now (cells .exit)) (r .answer) (r .lines) (r .width) (r .spaced) ⌝ }
 {
-    let height = lines(picture);
-    let width = longest(picture);
+    let extent = measure_lines(body(picture));
+    let height = extent.lines;
+    let width = extent.longest;
+    let spaced = extent.spaced;
     let need = area(height, width);
     if 1048576 < need {
         return Picture {
             answer: Reading::Large,
             lines: height,
             width,
+            spaced,
         };
     }
     if cells.len() < need {
@@ -38,6 +42,7 @@ fn start_ended(picture: &[u8], cells: &mut [u32]) -> Picture
             answer: Reading::Canvas(need),
             lines: height,
             width,
+            spaced,
         };
     }
     lay(picture, cells, width);
@@ -45,18 +50,20 @@ fn start_ended(picture: &[u8], cells: &mut [u32]) -> Picture
         answer: Reading::Done(0),
         lines: height,
         width,
+        spaced,
     }
 }
 
 // Puts a picture on the canvas.
 pub fn start(picture: &[u8], cells: &mut [u32]) -> Picture
-    ensures { λ r. ⌜ Started (now (picture .entry)) (now (cells .entry)) (now (cells .exit)) (r .answer) (r .lines) (r .width) ⌝ }
+    ensures { λ r. ⌜ Started (now (picture .entry)) (now (cells .entry)) (now (cells .exit)) (r .answer) (r .lines) (r .width) (r .spaced) ⌝ }
 {
     if !text::valid(picture) {
         return Picture {
             answer: Reading::Utf8,
             lines: 0,
             width: 0,
+            spaced: false,
         };
     }
     if !ended(picture) {
@@ -64,6 +71,7 @@ pub fn start(picture: &[u8], cells: &mut [u32]) -> Picture
             answer: Reading::Undrawn,
             lines: 0,
             width: 0,
+            spaced: false,
         };
     }
     start_ended(picture, cells)

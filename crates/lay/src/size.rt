@@ -1,13 +1,15 @@
 // A picture's size: its lines, the code points of the longest, and the cells that they ask for.
 ghost use mathlib.Core.Path.{_≡_};
 ghost use mathlib.Core.Bool.{true};
-ghost use Prim.Native.Nat.{_+_, _-_, _*_, _<_, _≤_, _^_, min};
-ghost use lib.ListN.{length, take};
-ghost use Rattle.rules.specs.Base.{greatest};
+ghost use mathlib.Core.List.{[]};
+ghost use Prim.Native.Nat.{_+_, _-_, _*_, _≤_, min};
+ghost use lib.ListN.{length, take, drop, getD};
+ghost use Rattle.rules.specs.Base.{greatest, any};
 ghost use Rattle.rules.specs.Utf8.{valid};
 ghost use Rattle.rules.specs.Lines.{linesOf};
-ghost use Rattle.rules.specs.Reader.{ended, pictureLines, pictureWidth};
+ghost use Rattle.rules.specs.Ordinary.{endsInSpace};
 ghost use Rattle.lay.specs.Rows.{codes};
+use crate::ends::ends_spaced;
 
 // A picture but for its last byte: the 0A that ends the last line.
 pub fn body<'a>(picture: &'a [u8]) -> &'a [u8]
@@ -18,55 +20,54 @@ pub fn body<'a>(picture: &'a [u8]) -> &'a [u8]
     &picture[..end]
 }
 
-// How many lines there are: one more than bytes 0A.
-fn lines_in(bytes: &[u8]) -> usize
-    requires { ⌜ length (now bytes) + 1 < 2 ^ 64 ⌝ }
-    ensures { λ r. ⌜ r ≡ length (linesOf (now (bytes .entry))) ⌝ }
+// Where the line that begins at `from` ends: at the first byte 0A from there on, or at the end.
+pub fn line_end(bytes: &[u8], from: usize) -> usize
+    requires { ⌜ from ≤ length (now bytes) ⌝ }
+    ensures { λ r. ⌜ r ≡ from + length (getD (linesOf (drop from (now (bytes .entry)))) 0 []) ⌝ }
 {
-    let mut lines: usize = 1;
-    let mut k = 0;
-    while k < bytes.len() {
-        if bytes[k] == 10 {
-            lines += 1;
+    let mut at = text::run_within(bytes, from, 11, 255);
+    while at < bytes.len() {
+        if bytes[at] == 10 {
+            return at;
         }
-        k = text::run_within(bytes, k + 1, 11, 255);
+        at = text::run_within(bytes, at + 1, 11, 255);
     }
-    lines
+    at
 }
 
-// The code points of the longest line.
-fn longest_in(bytes: &[u8]) -> usize
+// How many lines there are, the code points of the longest, and whether one ends in a space.
+pub struct Extent {
+    pub lines: usize,
+    pub longest: usize,
+    pub spaced: bool,
+}
+
+// All three in one walk.
+pub fn measure_lines(bytes: &[u8]) -> Extent
     requires { ⌜ valid (now bytes) ≡ true ⌝ }
-    ensures { λ r. ⌜ r ≡ greatest codes (linesOf (now (bytes .entry))) ⌝ }
+    ensures { λ r. ⌜ (r .lines ≡ length (linesOf (now (bytes .entry))))
+        × (r .longest ≡ greatest codes (linesOf (now (bytes .entry))))
+        × (r .spaced ≡ any endsInSpace (linesOf (now (bytes .entry)))) ⌝ }
 {
     let mut at = 0;
-    let mut most: usize = 0;
+    let mut lines: usize = 1;
+    let mut longest: usize = 0;
+    let mut spaced = false;
     loop {
-        let rest = &bytes[at..];
-        let line = text::next_line(rest);
-        most = text::longer(most, text::points_in(line));
-        at += line.len();
-        if at == bytes.len() {
-            return most;
+        let end = line_end(bytes, at);
+        let line = &bytes[at..end];
+        longest = text::longer(longest, text::points_in(line));
+        spaced = spaced | ends_spaced(line);
+        if end == bytes.len() {
+            return Extent {
+                lines,
+                longest,
+                spaced,
+            };
         }
-        at += 1;
+        at = end + 1;
+        lines += 1;
     }
-}
-
-// The lines of a picture.
-pub fn lines(picture: &[u8]) -> usize
-    requires { ⌜ (valid (now picture) ≡ true) × (ended (now picture) ≡ true) ⌝ }
-    ensures { λ r. ⌜ r ≡ length (pictureLines (now (picture .entry))) ⌝ }
-{
-    lines_in(body(picture))
-}
-
-// The code points of its longest line.
-pub fn longest(picture: &[u8]) -> usize
-    requires { ⌜ (valid (now picture) ≡ true) × (ended (now picture) ≡ true) ⌝ }
-    ensures { λ r. ⌜ r ≡ pictureWidth (now (picture .entry)) ⌝ }
-{
-    longest_in(body(picture))
 }
 
 // The cells that so many lines, the longest of so many code points, ask for: 1,048,577 stands for any number above 1,048,576.

@@ -1,11 +1,10 @@
 -- An ordinary plan is drawn as the picture P exactly when the picture shows what is drawn of it, and no line of P ends in a space.
-use mathlib.Core.Path.{_≡_, _∙_, subst}
+use mathlib.Core.Path.{_≡_, subst}
 use mathlib.Core.List.{List}
 use mathlib.Core.Bool.{true, false}
 use Prim.Native.Nat.{ℕ}
 use native.Mathlib.Omega.{arith}
 use lib.ListN.{length}
-use Rattle.rules.specs.Base.{any}
 use Rattle.rules.specs.Utf8.{valid}
 use Rattle.rules.specs.Plan.{Node}
 use Rattle.rules.specs.Levels.{view}
@@ -20,7 +19,7 @@ use Rattle.marks.proofs.Tests.{ordinary-plan, valid-title}
 use Rattle.marks.proofs.Accepted.{accept, compares}
 use Rattle.marks.proofs.Delivered.{drawn-wide}
 use Rattle.lay.specs.Spaced.{spaced}
-use Rattle.lay.proofs.Unspaced.{spaced-lines, unspaced}
+use Rattle.lay.proofs.Unspaced.{unspaced}
 
 -- what the picture P shows at each point
 abbrev pub Shows : List Node → List ℕ → Type 0
@@ -31,8 +30,8 @@ shows-drawn p P o v e s q =
     accept length boxes lawful p o P v e
     (record {
       high-as = q .high;
-      no-wider = λ l m. omega (arith, unspaced P e v s l m .0, q .wide);
-      unspaced = λ l m. unspaced P e v s l m .1;
+      no-wider = λ l m. omega (arith, unspaced P s l m .0, q .wide);
+      unspaced = λ l m. unspaced P s l m .1;
       point = λ x y a b. q .point x y (omega (arith, q .wide)) (omega (arith, q .high));
     })
 
@@ -48,11 +47,12 @@ text-shows p o =
       point = λ x y a b. c .point x y (omega (arith, w)) (omega (arith, c .high-as));
     }
 
-text-ends : (p : List Node) → ordinary length p ≡ true → any endsInSpace (pictureLines (text length boxes p)) ≡ false
+text-ends : (p : List Node) → ordinary length p ≡ true → spaced (text length boxes p) ≡ false
+unfolding spaced
 text-ends p o = any-none endsInSpace (pictureLines (text length boxes p)) (compares length boxes lawful p o .unspaced)
 
 pub drawn-shows : (p : List Node) (P : List ℕ) → Draws length boxes p P → Shows p P
 drawn-shows p P d = subst (λ (Q : List ℕ). Shows p Q) (d .1) (text-shows p (d .0))
 
-pub drawn-unspaced : (p : List Node) (P : List ℕ) → valid P ≡ true → ended P ≡ true → Draws length boxes p P → spaced P ≡ false
-drawn-unspaced p P v e d = spaced-lines P e v ∙ subst (λ (Q : List ℕ). any endsInSpace (pictureLines Q) ≡ false) (d .1) (text-ends p (d .0))
+pub drawn-unspaced : (p : List Node) (P : List ℕ) → Draws length boxes p P → spaced P ≡ false
+drawn-unspaced p P d = subst (λ (Q : List ℕ). spaced Q ≡ false) (d .1) (text-ends p (d .0))

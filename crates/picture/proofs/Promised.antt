@@ -1,7 +1,7 @@
 -- The reader's promise, answer by answer: a refusal before the picture is on the canvas, a refusal after it, and a plan that is found.
 use mathlib.Core.Path.{_≡_, refl, sym, _∙_}
 use mathlib.Core.List.{List}
-use mathlib.Core.Bool.{true, false}
+use mathlib.Core.Bool.{Bool, true, false}
 use Prim.Native.Nat.{ℕ, _-_, _≤_}
 use native.Mathlib.Nat.{mul-le-mul-left, mul-le-mul-right}
 use native.Mathlib.Omega.{arith}
@@ -17,7 +17,6 @@ use Rattle.rules.specs.declared.Reading.{Reading}
 use Rattle.rules.proofs.Candidate.{reads}
 use Rattle.rules.proofs.Lines.{linesOf-some}
 use Rattle.marks.proofs.Reader.{reads-right-boxes}
-use Rattle.lay.specs.Spaced.{spaced}
 use Rattle.lay.specs.Started.{Started}
 use Rattle.lay.proofs.Refusals.{reading-started, passed, stopped, put-there, not-there}
 use Rattle.sight.specs.Plan.{planSeen}
@@ -31,7 +30,7 @@ unfolding writtenBy pick
 unwritten part nothing r old h = refl
 unwritten part (plan p) r old h = rw (ne-eqb (readerNumber r) 0 (λ e. omega arith)) refl
 
-module _ (P old table titles new : List ℕ) (answer : Reading) (lines width : ℕ) (st : Started P old new answer lines width) where
+module _ (P old table titles new : List ℕ) (answer : Reading) (lines width : ℕ) (spaces : Bool) (st : Started P old new answer lines width spaces) where
   -- the first refusal
   pub stops : 1 ≤ readerNumber answer → Reads length boxes P old table titles answer new table titles
   stops n =
@@ -85,11 +84,11 @@ module _ (P old table titles new : List ℕ) (answer : Reading) (lines width : �
     pub no-width : width ≡ 0 → Reads length boxes P old table titles Reading.Undrawn new table titles
     no-width z = none-drawn (empty-is-none P (sym (st .wide h) ∙ z))
 
-    pub a-space : spaced P ≡ true → Reads length boxes P old table titles Reading.Undrawn new table titles
-    a-space s = none-drawn (spaced-is-none P old h s)
+    pub a-space : spaces ≡ true → Reads length boxes P old table titles Reading.Undrawn new table titles
+    a-space s = none-drawn (spaced-is-none P (sym (st .ends h) ∙ s))
 
     -- the last answer, by what lies on the canvas
-    pub answered-so : (r : Reading) (table′ titles′ : List ℕ) → spaced P ≡ false
+    pub answered-so : (r : Reading) (table′ titles′ : List ℕ) → spaces ≡ false
         → Answered new width lines table titles r table′ titles′ → Reads length boxes P old table titles r new table′ titles′
     answered-so r table′ titles′ s a = go (rw (st .left, st .wide h, st .high h) at a)
       where
@@ -97,7 +96,7 @@ module _ (P old table titles new : List ℕ) (answer : Reading) (lines width : �
         go (refused f e t i) = rw (e, t, i) (none-drawn (undrawn-is-none P old h f))
         go (accepted a d) = record {
           found = plan (planSeen (canvasRead P old) (pictureWidth P) (length (pictureLines P)));
-          right = accepted-is-drawn P old h s a;
+          right = accepted-is-drawn P old h (sym (st .ends h) ∙ s) a;
           answered = d .answered ∙ sym (told (plan (planSeen (canvasRead P old) (pictureWidth P) (length (pictureLines P)))));
           canvas-left = st .left;
           table-left = d .table-left;

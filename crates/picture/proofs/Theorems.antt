@@ -61,9 +61,9 @@ module _ (P old : List ℕ) (h : placed P (length old) ≡ true) where
       go (wrong-depth l) d = omega (arith, ordinary-plan length _ (d .0) .drawable .depths)
       go (other f) d = f (rw (seen-is P old h) (drawn-shows _ P d))
 
-  -- nor where a line ends in a space
-  pub spaced-is-none : spaced P ≡ true → (q : List Node) → Draws length boxes q P → ⊥
-  spaced-is-none s q d = let t = placed-valid P (length old) h in false≢true (sym (drawn-unspaced q P (t .0) (t .1) d) ∙ s)
+-- nor where a line ends in a space
+pub spaced-is-none : (P : List ℕ) → spaced P ≡ true → (q : List Node) → Draws length boxes q P → ⊥
+spaced-is-none P s q d = false≢true (sym (drawn-unspaced q P d) ∙ s)
 
 -- nor where all lines are empty
 pub empty-is-none : (P : List ℕ) → pictureWidth P ≡ 0 → (q : List Node) → Draws length boxes q P → ⊥

@@ -20,7 +20,7 @@ pub fn read(picture: &[u8], canvas: &mut [u32], table: &mut [u32], titles: &mut 
     if width == 0 {
         return Reading::Undrawn;
     }
-    if lay::spaced(picture) {
+    if p.spaced {
         return Reading::Undrawn;
     }
     look(canvas, width as u32, lines as u32, table, titles)

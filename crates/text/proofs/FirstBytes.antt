@@ -92,3 +92,11 @@ begun s n e l h q =
       fourth = fourth;
       four = λ z y x. read-four s (fourth z y x) (starts a n r (f .lead) z .1 y .1 x);
     }
+
+-- E2 begins three bytes
+pub read-E2 : (s : List ℕ) → valid s ≡ true → 0 < length s → getD s 0 0 ≡ 0xE2
+    → (2 < length s) × Read s (0x2000 + getD s 1 0 % 64 * 64 + getD s 2 0 % 64) 3
+read-E2 s e l q =
+    let three : 2 < length s = omega (arith, two-more (getD s 0 0) (omega arith), first-char s e l .fits) in
+    let r = read-three s three (omega arith) (omega arith) in
+    (three, (omega (arith, r .0), r .1))

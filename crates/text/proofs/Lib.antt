@@ -4,3 +4,4 @@ pub mod FirstBytes
 pub mod Within
 pub mod Passed
 pub mod Ascii
+pub mod Joins

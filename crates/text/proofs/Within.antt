@@ -1,10 +1,11 @@
 -- Runs within bounds, one after another, are one run.
-use mathlib.Core.Path.{_≡_}
+use mathlib.Core.Path.{_≡_, _∙_}
 use mathlib.Core.List.{List}
-use Prim.Native.Nat.{ℕ, suc, _+_, _*_, _≤_, _<_}
+use Prim.Native.Nat.{ℕ, suc, _+_, _-_, _*_, _≤_}
 use native.Mathlib.Omega.{arith}
 use native.Mathlib.Decide.{decLe}
-use lib.ListN.{getD}
+use lib.ListN.{length, getD, take, drop, length-drop}
+use lib.Seq.{getD-take, getD-drop, length-take-le}
 use Rattle.text.specs.Within.{Within}
 
 module _ (s : List ℕ) (low high : ℕ) where
@@ -13,6 +14,19 @@ module _ (s : List ℕ) (low high : ℕ) where
 
   pub within-join : (a m e : ℕ) → Within s low high a m → Within s low high m e → Within s low high a e
   within-join a m e p q k h l = elim (decLe (suc k) m) [ yes b ↦ p k h b | no b ↦ q k (omega arith) l ]
+
+  -- a walk that stands at m, and goes on from there
+  pub run-on : (a m e : ℕ) → (a ≤ m) × (m ≤ length s) × Within s low high a m → (m ≤ e) × (e ≤ length s) × Within s low high m e
+      → (a ≤ e) × (e ≤ length s) × Within s low high a e
+  run-on a m e p q = (omega (arith, p .0, q .0), q .1, within-join a m e (p .2) (q .2))
+
+  -- all of a part
+  pub within-part : (a e : ℕ) → a ≤ e → e ≤ length s → Within (take (e - a) (drop a s)) low high 0 (length (take (e - a) (drop a s))) → Within s low high a e
+  within-part a e f g w k h l =
+      let n : length (take (e - a) (drop a s)) ≡ e - a = length-take-le (e - a) (drop a s) (simp length-drop (omega arith)) in
+      let z : a + (k - a) ≡ k = omega arith in
+      let q : getD (take (e - a) (drop a s)) (k - a) 0 ≡ getD s k 0 = getD-take (e - a) (drop a s) (k - a) 0 (omega arith) ∙ getD-drop a s (k - a) 0 ∙ rw z in
+      rw q at (w (k - a) (omega arith) (omega arith))
 
   -- four facts are a run of four, and four runs of four a run of sixteen
   pub within-one : (a b : ℕ) → b ≡ getD s a 0 → (low ≤ b) × (b ≤ high) → Within s low high a (a + 1)

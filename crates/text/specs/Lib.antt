@@ -2,3 +2,4 @@ pub mod Ones
 pub mod Wanted
 pub mod Within
 pub mod Passed
+pub mod Joins

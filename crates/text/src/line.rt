@@ -6,13 +6,12 @@ ghost use lib.ListN.{length, getD};
 ghost use Rattle.rules.specs.Base.{greatest};
 ghost use Rattle.rules.specs.Lines.{linesOf};
 use crate::number::greater;
-use crate::run::run_within;
 
 // The first line of the rest of a title: up to byte 0A or the end.
 pub fn next_line<'a>(rest: &'a [u8]) -> &'a [u8]
     ensures { λ r. ⌜ now r ≡ getD (linesOf (now (rest .entry))) 0 [] ⌝ }
 {
-    let mut end = run_within(rest, 0, 11, 255);
+    let mut end = 0;
     while end < rest.len() {
         if rest[end] == 10 {
             return &rest[..end];

@@ -1,4 +1,4 @@
-// Runs of bytes within bounds, sixteen at a time, which the compiler does in wide registers.
+// Runs of bytes within bounds, sixteen or 64 at a time, which the compiler does in wide registers.
 ghost use mathlib.Core.Path.{_≡_};
 ghost use mathlib.Core.Bool.{true};
 ghost use Prim.Native.Nat.{_+_, _≤_};
@@ -9,14 +9,7 @@ ghost use Rattle.text.specs.Within.{Within};
 fn all(a: bool, b: bool, c: bool, d: bool) -> bool
     ensures { λ r. ⌜ (r ≡ true → (a ≡ true) × (b ≡ true) × (c ≡ true) × (d ≡ true)) ⌝ }
 {
-    if a {
-        if b {
-            if c {
-                return d;
-            }
-        }
-    }
-    false
+    a & b & c & d
 }
 
 // A byte lies within bounds.
@@ -70,12 +63,60 @@ fn end_within(s: &[u8], from: usize, low: u8, high: u8) -> usize
 }
 
 // Passes bytes within bounds from `from` on, up to the first that is not: whole sixteens, and then byte by byte.
+fn sixteens_within(s: &[u8], from: usize, low: u8, high: u8) -> usize
+    requires { ⌜ from ≤ length (now s) ⌝ }
+    ensures { λ r. ⌜ (from ≤ r) × (r ≤ length (now (s .entry))) × Within (now (s .entry)) low high from r ⌝ }
+{
+    let mut at = from;
+    while 16 <= s.len() - at {
+        if sixteen_within(s, at, low, high) {
+            at += 16;
+        } else {
+            return end_within(s, at, low, high);
+        }
+    }
+    end_within(s, at, low, high)
+}
+
+// All bytes lie within bounds, if it says so. (A loop without a branch, which the compiler does many bytes at a time.)
+fn all_within(s: &[u8], low: u8, high: u8) -> bool
+    ensures { λ r. ⌜ (r ≡ true → Within (now (s .entry)) low high 0 (length (now (s .entry)))) ⌝ }
+{
+    let mut ok = true;
+    let mut k = 0;
+    while k < s.len() {
+        ok = ok & (low <= s[k]) & (s[k] <= high);
+        k += 1;
+    }
+    ok
+}
+
+// The same for a long run: 64 at a time, and then by sixteens.
+fn long_within(s: &[u8], from: usize, low: u8, high: u8) -> usize
+    requires { ⌜ from ≤ length (now s) ⌝ }
+    ensures { λ r. ⌜ (from ≤ r) × (r ≤ length (now (s .entry))) × Within (now (s .entry)) low high from r ⌝ }
+{
+    let mut at = from;
+    while 64 <= s.len() - at {
+        if all_within(&s[at..at + 64], low, high) {
+            at += 64;
+        } else {
+            return sixteens_within(s, at, low, high);
+        }
+    }
+    sixteens_within(s, at, low, high)
+}
+
+// The same for any run: by sixteens, and after 64 bytes as a long one.
 pub fn run_within(s: &[u8], from: usize, low: u8, high: u8) -> usize
     requires { ⌜ from ≤ length (now s) ⌝ }
     ensures { λ r. ⌜ (from ≤ r) × (r ≤ length (now (s .entry))) × Within (now (s .entry)) low high from r ⌝ }
 {
     let mut at = from;
     while 16 <= s.len() - at {
+        if 64 <= at - from {
+            return long_within(s, at, low, high);
+        }
         if sixteen_within(s, at, low, high) {
             at += 16;
         } else {

@@ -7,6 +7,8 @@ ghost use lib.ListN.{length, getD, drop};
 ghost use Rattle.rules.specs.Utf8.{following, continues, points, more};
 ghost use Rattle.rules.specs.Utf8 as rule;
 ghost use Rattle.text.specs.Ones as spec;
+ghost use Rattle.text.specs.Joins as join;
+ghost use Rattle.text.specs.Joins.{Joined};
 ghost use Rattle.text.specs.Wanted.{wanted};
 ghost use Rattle.text.specs.Passed.{Passed, beginsOne, begun};
 use crate::run::lies;
@@ -261,11 +263,79 @@ fn steps(s: &[u8]) -> bool
     w.bytes == 0
 }
 
-// All of s is valid UTF-8: at sight where no byte is above 7F.
+// A byte that goes on with a code point has to follow a, b and c: c has one to come, b two, or a three.
+fn due(a: u8, b: u8, c: u8) -> bool
+    ensures { λ r. ⌜ r ≡ join.due a b c ⌝ }
+{
+    (0xC0 <= c) | (0xE0 <= b) | (0xF0 <= a)
+}
+
+// A byte goes on with a code point.
+fn goes(d: u8) -> bool
+    ensures { λ r. ⌜ r ≡ join.goes d ⌝ }
+{
+    (0x80 <= d) & (d < 0xC0)
+}
+
+// A byte begins no code point, or one whose other bytes may be any that go on: it is not C0, C1, E0, ED, F0, nor F4 or above.
+fn fair(d: u8) -> bool
+    ensures { λ r. ⌜ r ≡ join.fair d ⌝ }
+{
+    (d < 0xC0) | ((0xC2 <= d) & (d < 0xF4) & (d != 0xE0) & (d != 0xED) & (d != 0xF0))
+}
+
+// After a, b and c a fair byte d goes on exactly where one that does has to.
+fn joins(a: u8, b: u8, c: u8, d: u8) -> bool
+    ensures { λ r. ⌜ r ≡ join.joins a b c d ⌝ }
+{
+    (due(a, b, c) == goes(d)) & fair(d)
+}
+
+// From the fourth on each byte joins the three before it, if it says so. (A loop without a branch, which the compiler does many bytes at a time.)
+fn sound(s: &[u8]) -> bool
+    ensures { λ r. ⌜ (r ≡ true → Joined (now (s .entry))) ⌝ }
+{
+    let mut ok = true;
+    let mut k = 3;
+    while k < s.len() {
+        ok = ok & joins(s[k - 3], s[k - 2], s[k - 1], s[k]);
+        k += 1;
+    }
+    ok
+}
+
+// The first three bytes join those before them: zeros, where there are none.
+fn begins_sound(s: &[u8]) -> bool
+    requires { ⌜ 3 ≤ length (now s) ⌝ }
+    ensures { λ r. ⌜ r ≡ join.begins (getD (now (s .entry)) 0 0) (getD (now (s .entry)) 1 0) (getD (now (s .entry)) 2 0) ⌝ }
+{
+    joins(0, 0, 0, s[0]) & joins(0, 0, s[0], s[1]) & joins(0, s[0], s[1], s[2])
+}
+
+// All of s is valid UTF-8, if it says so: each byte joins those before it, and the last has none to come.
+fn settled(s: &[u8]) -> bool
+    ensures { λ r. ⌜ (r ≡ true → rule.valid (now (s .entry)) ≡ true) ⌝ }
+{
+    if s.len() < 3 {
+        return false;
+    }
+    if 0x80 <= s[s.len() - 1] {
+        return false;
+    }
+    if begins_sound(s) {
+        return sound(s);
+    }
+    false
+}
+
+// All of s is valid UTF-8: at sight where no byte is above 7F, or where neighbouring bytes settle it.
 pub fn valid(s: &[u8]) -> bool
     ensures { λ r. ⌜ r ≡ rule.valid (now (s .entry)) ⌝ }
 {
     if plain(s) {
+        return true;
+    }
+    if settled(s) {
         return true;
     }
     steps(s)
@@ -285,7 +355,7 @@ fn low_bits(b: u8) -> u32
 }
 
 // The first code point of the rest of valid UTF-8: the leading ones of its first byte choose its length.
-pub fn decode(rest: &[u8]) -> Point
+fn by_ones(rest: &[u8]) -> Point
     requires { ⌜ (rule.valid (now rest) ≡ true) × (0 < length (now rest)) ⌝ }
     ensures { λ r. ⌜ (r .value ≡ getD (points (now (rest .entry))) 0 0) × (r .size ≡ more (getD (now (rest .entry)) 0 0) + 1) ⌝ }
 {
@@ -315,6 +385,20 @@ pub fn decode(rest: &[u8]) -> Point
         value: (((first % 8) as u32 * 64 + b) * 64 + c) * 64 + low_bits(rest[3]),
         size: 4,
     }
+}
+
+// The first code point of the rest of valid UTF-8. E2, which most marks of a picture begin with, is answered before ones are counted.
+pub fn decode(rest: &[u8]) -> Point
+    requires { ⌜ (rule.valid (now rest) ≡ true) × (0 < length (now rest)) ⌝ }
+    ensures { λ r. ⌜ (r .value ≡ getD (points (now (rest .entry))) 0 0) × (r .size ≡ more (getD (now (rest .entry)) 0 0) + 1) ⌝ }
+{
+    if rest[0] == 0xE2 {
+        return Point {
+            value: 0x2000 + low_bits(rest[1]) * 64 + low_bits(rest[2]),
+            size: 3,
+        };
+    }
+    by_ones(rest)
 }
 
 // 1 for a byte that begins a code point, 0 for one that goes on with it.

@@ -5,19 +5,19 @@ use mathlib.Core.Bool.{true}
 use Prim.Native.Nat.{_<_, _≤_, _-_}
 use native.Mathlib.Omega.{arith}
 use Rattle.bands.specs.Strip.{stripsSame}
-use Rattle.bands.specs.Row.{seenTo}
+use Rattle.bands.specs.Row.{rowBy, seenTo}
 use Rattle.bands.proofs.Strips.{seen-step, fits-spot, strip-is, strips-none, strips-more, strips-not}
 use borrow.Author.Needs.{needs}
 use Rattle.bands.proofs.across.columns_same.Statement.{statement}
 use Rattle.bands.proofs.across.columns_same.Tie as tie
 
 abbrev Inv-loop : tie.InvT-loop
-Inv-loop cells width lines longest cx xs ncols row n seen₀ over₀ j₀ seen over j =
-    (j ≤ ncols) × (seen ≡ seenTo (row .here) j) × (over ≡ seenTo (row .above) j)
-    × (stripsSame cells width row lines longest cx xs ncols j ≡ true)
+Inv-loop cells width above here next on top end bend middle lines longest cx xs ncols n seen₀ over₀ j₀ seen over j =
+    (j ≤ ncols) × (seen ≡ seenTo here j) × (over ≡ seenTo above j)
+    × (stripsSame cells width (rowBy above here next on top end bend middle) lines longest cx xs ncols j ≡ true)
 
 abbrev μ-loop : tie.MeasureT-loop
-μ-loop cells width lines longest cx xs ncols row n seen₀ over₀ j₀ seen over j = ncols - j
+μ-loop cells width above here next on top end bend middle lines longest cx xs ncols n seen₀ over₀ j₀ seen over j = ncols - j
 
 wide-requires : tie.Need-wide-requires Inv-loop μ-loop
 wide-requires c κs = search needs
@@ -26,13 +26,16 @@ loop-holds : tie.Need-loop-holds Inv-loop μ-loop
 unfolding seenTo
 loop-holds c =
     let s = c .before .before .args in
-    (search needs, refl, refl, strips-none (s .cells .now) (s .width) (s .t3) (s .lines .now) (s .longest .now) (s .cx .now) (s .xs .now) (s .ncols))
+    (search needs, refl, refl, strips-none (s .cells .now) (s .width) (rowBy (s .above .now) (s .here .now) (s .next .now) (s .on .now) (s .top) (s .end) (s .bend) (s .middle)) (s .lines .now) (s .longest .now) (s .cx .now) (s .xs .now) (s .ncols))
 
 mul-k : tie.Need-mul-k Inv-loop μ-loop
 mul-k c = search needs
 
 element-copy-out-k : tie.Need-element-copy-out-k Inv-loop μ-loop
 element-copy-out-k c = search needs
+
+cast-k : tie.Need-cast-k Inv-loop μ-loop
+cast-k c = record { fits = omega (arith, c .before .before .before .before .before .pre .1 (c .before .before .loop .j) (omega arith) .node) }
 
 mul-over : tie.Need-mul-over Inv-loop μ-loop
 mul-over c = search needs
@@ -46,11 +49,11 @@ mul-child c = search needs
 element-copy-out-child : tie.Need-element-copy-out-child Inv-loop μ-loop
 element-copy-out-child c = search needs
 
-mul-on : tie.Need-mul-on Inv-loop μ-loop
-mul-on c = search needs
+mul-onward : tie.Need-mul-onward Inv-loop μ-loop
+mul-onward c = search needs
 
-element-copy-out-on : tie.Need-element-copy-out-on Inv-loop μ-loop
-element-copy-out-on c = search needs
+element-copy-out-onward : tie.Need-element-copy-out-onward Inv-loop μ-loop
+element-copy-out-onward c = search needs
 
 mul-spot-of : tie.Need-mul-spot-of Inv-loop μ-loop
 mul-spot-of c = search needs
@@ -82,12 +85,13 @@ element-copy-out-block-same c = search needs
 block-same-requires : tie.Need-block-same-requires Inv-loop μ-loop
 block-same-requires c κs =
     let s = c .before .before .before .before .before .before .before .before .before .before .before .before .before .before in
+    let r = rowBy (s .args .above .now) (s .args .here .now) (s .args .next .now) (s .args .on .now) (s .args .top) (s .args .end) (s .args .bend) (s .args .middle) in
     let l = c .before .before .before .before .before .before .before .before .before .before .before .loop in
     let h : l .j < s .args .ncols = omega (arith, c .before .before .before .before .before .before .before .before .before .before .loop-test, c .before .before .before .before .before .before .before .before .before .before .before .before .wide .ensures) in
     let e = rw (c .before .before .before .before .size-of .ensures, c .before .before .before .size-of2 .ensures) at (c .before .before .spot-of .ensures) in
     let q = s .pre .1 (l .j) h .room in
     rw (c .before .column-end .ensures)
-    (q .on-canvas, s .pre .0 .0, fits-spot (c .before .before .spot-of .result) (s .args .width) (s .args .t3) _ _ _ _ _ _ _ _ _ e q (s .pre .0 .1))
+    (q .on-canvas, s .pre .0 .0, fits-spot (c .before .before .spot-of .result) (s .args .width) r _ _ _ _ _ _ _ _ _ e q (s .pre .0 .1))
 
 add-j : tie.Need-add-j Inv-loop μ-loop
 add-j c = search needs
@@ -98,28 +102,30 @@ loop-less c = search needs
 loop-again : tie.Need-loop-again Inv-loop μ-loop
 loop-again c =
     let s = c .before .before .before .before .before .before .before .before .before .before .before .before .before .before .before .before in
+    let r = rowBy (s .args .above .now) (s .args .here .now) (s .args .next .now) (s .args .on .now) (s .args .top) (s .args .end) (s .args .bend) (s .args .middle) in
     let l = c .before .before .before .before .before .before .before .before .before .before .before .before .before .loop in
     let h : l .j < s .args .ncols = omega (arith, c .before .before .before .before .before .before .before .before .before .before .before .before .loop-test, c .before .before .before .before .before .before .before .before .before .before .before .before .before .before .wide .ensures) in
     let w =
-    strip-is (s .args .cells .now) (s .args .width) (s .args .t3) (s .args .lines .now) (s .args .longest .now) (s .args .cx .now) (s .args .xs .now) (s .args .ncols) (l .j) _ _ _ (c .before .before .before .before .spot-of .result) (l .seen) (l .over) _ (l .inv .1) (l .inv .2)
+    strip-is (s .args .cells .now) (s .args .width) r (s .args .lines .now) (s .args .longest .now) (s .args .cx .now) (s .args .xs .now) (s .args .ncols) (l .j) _ _ _ (c .before .before .before .before .spot-of .result) (l .seen) (l .over) _ (l .inv .1) (l .inv .2)
     (c .before .before .before .before .before .before .size-of .ensures) (c .before .before .before .before .before .size-of2 .ensures) (c .before .before .before .before .spot-of .ensures) (c .before .before .before .column-end .ensures) (c .before .block-same .ensures)
     in (
       omega arith,
-      seen-step (s .args .t3 .here) (l .j) (l .seen) (l .inv .1),
-      seen-step (s .args .t3 .above) (l .j) (l .over) (l .inv .2),
-      strips-more (s .args .cells .now) (s .args .width) (s .args .t3) (s .args .lines .now) (s .args .longest .now) (s .args .cx .now) (s .args .xs .now) (s .args .ncols) (l .j) (l .inv .3) (sym (c .if1 .taken) ∙ w),
+      seen-step (s .args .here .now) (l .j) (l .seen) (l .inv .1),
+      seen-step (s .args .above .now) (l .j) (l .over) (l .inv .2),
+      strips-more (s .args .cells .now) (s .args .width) r (s .args .lines .now) (s .args .longest .now) (s .args .cx .now) (s .args .xs .now) (s .args .ncols) (l .j) (l .inv .3) (sym (c .if1 .taken) ∙ w),
     )
 
 returns : tie.Need-returns Inv-loop μ-loop
 returns c =
     let s = c .before .before .before .before .before .before .before .before .before .before .before .before .before .before .before .before in
+    let r = rowBy (s .args .above .now) (s .args .here .now) (s .args .next .now) (s .args .on .now) (s .args .top) (s .args .end) (s .args .bend) (s .args .middle) in
     let l = c .before .before .before .before .before .before .before .before .before .before .before .before .before .loop in
     let h : l .j < s .args .ncols = omega (arith, c .before .before .before .before .before .before .before .before .before .before .before .before .loop-test, c .before .before .before .before .before .before .before .before .before .before .before .before .before .before .wide .ensures) in
     let w =
-    strip-is (s .args .cells .now) (s .args .width) (s .args .t3) (s .args .lines .now) (s .args .longest .now) (s .args .cx .now) (s .args .xs .now) (s .args .ncols) (l .j) _ _ _ (c .before .before .before .before .spot-of .result) (l .seen) (l .over) _ (l .inv .1) (l .inv .2)
+    strip-is (s .args .cells .now) (s .args .width) r (s .args .lines .now) (s .args .longest .now) (s .args .cx .now) (s .args .xs .now) (s .args .ncols) (l .j) _ _ _ (c .before .before .before .before .spot-of .result) (l .seen) (l .over) _ (l .inv .1) (l .inv .2)
     (c .before .before .before .before .before .before .size-of .ensures) (c .before .before .before .before .before .size-of2 .ensures) (c .before .before .before .before .spot-of .ensures) (c .before .before .before .column-end .ensures) (c .before .block-same .ensures)
     in
-    strips-not (s .args .cells .now) (s .args .width) (s .args .t3) (s .args .lines .now) (s .args .longest .now) (s .args .cx .now) (s .args .xs .now) (s .args .ncols) (l .j) (s .args .ncols) h (sym (c .if1 .left) ∙ w)
+    strips-not (s .args .cells .now) (s .args .width) r (s .args .lines .now) (s .args .longest .now) (s .args .cx .now) (s .args .xs .now) (s .args .ncols) (l .j) (s .args .ncols) h (sym (c .if1 .left) ∙ w)
 
 returns-2 : tie.Need-returns-2 Inv-loop μ-loop
 returns-2 c =
@@ -138,12 +144,13 @@ columns-same-spec =
     loop-holds
     mul-k
     element-copy-out-k
+    cast-k
     mul-over
     element-copy-out-over
     mul-child
     element-copy-out-child
-    mul-on
-    element-copy-out-on
+    mul-onward
+    element-copy-out-onward
     mul-spot-of
     element-copy-out-spot-of
     size-of-requires

@@ -1,11 +1,12 @@
 -- The bytes so far are the cells so far and the sum, which is at most three for each.
-use mathlib.Core.Path.{_≡_, refl, ap}
+use mathlib.Core.Path.{_≡_, refl}
 use Prim.Native.Nat.{_+_, _≤_, _-_}
 use native.Mathlib.Omega.{arith}
-use lib.ListN.{length, length-append}
+use lib.ListN.{length}
 use Rattle.rules.specs.Base.{each}
 use Rattle.canvas_text.specs.Emit.{bytesTo}
-use Rattle.canvas_text.proofs.EmitRow.{bytes-next, bytes-bound}
+use Rattle.canvas_text.proofs.EmitRow.{bytes-bound}
+use Rattle.canvas_text.proofs.EmitBlock.{more-part, more-whole}
 use borrow.Author.Needs.{needs}
 use Rattle.canvas_text.proofs.emit.bytes_to.Statement.{statement}
 use Rattle.canvas_text.proofs.emit.bytes_to.Tie as tie
@@ -20,20 +21,17 @@ loop-holds : tie.Need-loop-holds Inv-loop μ-loop
 unfolding bytesTo each
 loop-holds c = (search needs, refl)
 
-mul-more : tie.Need-mul-more Inv-loop μ-loop
-mul-more c = search needs
+sub-loop : tie.Need-sub-loop Inv-loop μ-loop
+sub-loop c = search needs
 
-shared-slice-read-more : tie.Need-shared-slice-read-more Inv-loop μ-loop
-shared-slice-read-more c = search needs
-
-more-requires : tie.Need-more-requires Inv-loop μ-loop
-more-requires c κs = search needs
+more-at-requires : tie.Need-more-at-requires Inv-loop μ-loop
+more-at-requires c κs = search needs
 
 add-sum : tie.Need-add-sum Inv-loop μ-loop
 add-sum c =
-    let s = c .before .before .before in
-    let row = s .before .before .args .row .now in
-    record { fits = omega (arith, c .more .ensures, simp length-append at (ap length (bytes-next row (s .loop .x))), bytes-bound row (s .loop .x + 1)) }
+    let l = c .before .before .loop in
+    let row = c .before .before .before .before .args .row .now in
+    record { fits = omega (arith, more-part row (l .x) 64 (l .sum) (c .more-at .result) (l .inv .1) (c .more-at .ensures), bytes-bound row (l .x + 64)) }
 
 add-x : tie.Need-add-x Inv-loop μ-loop
 add-x c = search needs
@@ -43,22 +41,35 @@ loop-less c = search needs
 
 loop-again : tie.Need-loop-again Inv-loop μ-loop
 loop-again c =
-    let s = c .before .before .before in
-    (search needs, omega (arith, c .more .ensures, simp length-append at (ap length (bytes-next (s .before .before .args .row .now) (s .loop .x)))))
+    let l = c .before .before .loop in
+    let row = c .before .before .before .before .args .row .now in
+    (search needs, more-part row (l .x) 64 (l .sum) (c .more-at .result) (l .inv .1) (c .more-at .ensures))
+
+more-in-requires : tie.Need-more-in-requires Inv-loop μ-loop
+more-in-requires c κs = search needs
+
+add-wide : tie.Need-add-wide Inv-loop μ-loop
+add-wide c =
+    let l = c .before .before .loop in
+    let a = c .before .before .before .before .args in
+    record { fits = omega (arith, more-whole (a .row .now) (l .x) (a .end) (l .sum) (c .more-in .result) (l .inv .0) (l .inv .1) (c .more-in .ensures), bytes-bound (a .row .now) (a .end)) }
 
 wide-requires : tie.Need-wide-requires Inv-loop μ-loop
 wide-requires c κs = search needs
 
 add-result : tie.Need-add-result Inv-loop μ-loop
 add-result c =
-    let s = c .before .before in
-    record { fits = omega (arith, c .wide .ensures, bytes-bound (s .before .before .args .row .now) (s .loop .x)) }
+    let l = c .before .before .before .loop in
+    let a = c .before .before .before .before .before .args in
+    let m = c .before .more-in in
+    record { fits = omega (arith, c .wide .ensures, more-whole (a .row .now) (l .x) (a .end) (l .sum) (m .result) (l .inv .0) (l .inv .1) (m .ensures), bytes-bound (a .row .now) (a .end)) }
 
 returns : tie.Need-returns Inv-loop μ-loop
 returns c =
-    let s = c .before .before in
-    let e : s .loop .x ≡ s .before .before .args .end = omega arith in
-    omega (arith, c .wide .ensures, rw e at (s .loop .inv .1))
+    let l = c .before .before .before .loop in
+    let a = c .before .before .before .before .before .args in
+    let m = c .before .more-in in
+    omega (arith, c .wide .ensures, more-whole (a .row .now) (l .x) (a .end) (l .sum) (m .result) (l .inv .0) (l .inv .1) (m .ensures))
 
 pub bytes-to-spec : {M : Type 1} → statement M
 bytes-to-spec =
@@ -67,13 +78,14 @@ bytes-to-spec =
     Inv-loop
     μ-loop
     loop-holds
-    mul-more
-    shared-slice-read-more
-    more-requires
+    sub-loop
+    more-at-requires
     add-sum
     add-x
     loop-less
     loop-again
+    more-in-requires
+    add-wide
     wide-requires
     add-result
     returns)

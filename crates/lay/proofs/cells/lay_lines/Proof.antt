@@ -33,34 +33,25 @@ loop-holds c =
     let s = c .before .before in
     (search needs, refl, s .pre .0, s .pre .1, search needs, refl, refl)
 
-sub-rest : tie.Need-sub-rest Inv-loop μ-loop
-sub-rest c = search needs
-
-part-rest-start : tie.Need-part-rest-start Inv-loop μ-loop
-part-rest-start c = search needs
-
-part-rest-end : tie.Need-part-rest-end Inv-loop μ-loop
-part-rest-end c = search needs
-
-next-line-requires : tie.Need-next-line-requires Inv-loop μ-loop
-next-line-requires c κs = search needs
+line-end-requires : tie.Need-line-end-requires Inv-loop μ-loop
+line-end-requires c κs = c .loop .inv .0
 
 add-to : tie.Need-add-to Inv-loop μ-loop
 add-to c =
-    let n = c in
-    let l = n .before .before .loop in
-    let a = n .before .before .before .before .before .args in
+    let e = c .line-end in
+    let l = c .before .loop in
+    let a = c .before .before .before .before .args in
     let Q = rows (a .width) (linesOf (a .bytes .now)) in
-    let h = laying Q (a .bytes .now) (n .next-line .result .now) (l .at) (l .from) (a .width) (l .inv .0) (l .inv .2) (l .inv .3) (l .inv .4) (l .inv .5) (n .next-line .ensures) in
+    let h = laying Q (a .bytes .now) (l .at) (e .result) (l .from) (a .width) (l .inv .0) (l .inv .2) (l .inv .3) (l .inv .4) (l .inv .5) (e .ensures) in
     record { fits = omega (arith, h .room) }
 
 mul-lay-row : tie.Need-mul-lay-row Inv-loop μ-loop
 mul-lay-row c =
-    let n = c in
-    let l = n .before .before .loop in
-    let a = n .before .before .before .before .before .args in
+    let e = c .line-end in
+    let l = c .before .loop in
+    let a = c .before .before .before .before .args in
     let Q = rows (a .width) (linesOf (a .bytes .now)) in
-    let h = laying Q (a .bytes .now) (n .next-line .result .now) (l .at) (l .from) (a .width) (l .inv .0) (l .inv .2) (l .inv .3) (l .inv .4) (l .inv .5) (n .next-line .ensures) in
+    let h = laying Q (a .bytes .now) (l .at) (e .result) (l .from) (a .width) (l .inv .0) (l .inv .2) (l .inv .3) (l .inv .4) (l .inv .5) (e .ensures) in
     record { fits = omega (arith, h .room) }
 
 sub-lay-row : tie.Need-sub-lay-row Inv-loop μ-loop
@@ -71,72 +62,90 @@ part-lay-row-start c = search needs
 
 part-lay-row-end : tie.Need-part-lay-row-end Inv-loop μ-loop
 part-lay-row-end c =
-    let n = c in
-    let l = n .before .before .loop in
-    let a = n .before .before .before .before .before .args in
+    let e = c .line-end in
+    let l = c .before .loop in
+    let a = c .before .before .before .before .args in
     let Q = rows (a .width) (linesOf (a .bytes .now)) in
-    let h = laying Q (a .bytes .now) (n .next-line .result .now) (l .at) (l .from) (a .width) (l .inv .0) (l .inv .2) (l .inv .3) (l .inv .4) (l .inv .5) (n .next-line .ensures) in
+    let h = laying Q (a .bytes .now) (l .at) (e .result) (l .from) (a .width) (l .inv .0) (l .inv .2) (l .inv .3) (l .inv .4) (l .inv .5) (e .ensures) in
     omega (arith, h .room)
+
+sub-lay-row-2 : tie.Need-sub-lay-row-2 Inv-loop μ-loop
+sub-lay-row-2 c =
+    let e = c .before .line-end in
+    let l = c .before .before .loop in
+    let a = c .before .before .before .before .before .args in
+    let Q = rows (a .width) (linesOf (a .bytes .now)) in
+    let h = laying Q (a .bytes .now) (l .at) (e .result) (l .from) (a .width) (l .inv .0) (l .inv .2) (l .inv .3) (l .inv .4) (l .inv .5) (e .ensures) in
+    h .line .begins
+
+part-lay-row-start-2 : tie.Need-part-lay-row-start-2 Inv-loop μ-loop
+part-lay-row-start-2 c =
+    let e = c .before .line-end in
+    let l = c .before .before .loop in
+    let a = c .before .before .before .before .before .args in
+    let Q = rows (a .width) (linesOf (a .bytes .now)) in
+    let h = laying Q (a .bytes .now) (l .at) (e .result) (l .from) (a .width) (l .inv .0) (l .inv .2) (l .inv .3) (l .inv .4) (l .inv .5) (e .ensures) in
+    h .line .begins
+
+part-lay-row-end-2 : tie.Need-part-lay-row-end-2 Inv-loop μ-loop
+part-lay-row-end-2 c =
+    let e = c .before .line-end in
+    let l = c .before .before .loop in
+    let a = c .before .before .before .before .before .args in
+    let Q = rows (a .width) (linesOf (a .bytes .now)) in
+    let h = laying Q (a .bytes .now) (l .at) (e .result) (l .from) (a .width) (l .inv .0) (l .inv .2) (l .inv .3) (l .inv .4) (l .inv .5) (e .ensures) in
+    h .line .fits
 
 lay-row-requires : tie.Need-lay-row-requires Inv-loop μ-loop
 lay-row-requires c κs =
-    let n = c .before in
-    let l = n .before .before .loop in
-    let a = n .before .before .before .before .before .args in
+    let e = c .before .before .line-end in
+    let l = c .before .before .before .loop in
+    let a = c .before .before .before .before .before .before .args in
     let Q = rows (a .width) (linesOf (a .bytes .now)) in
-    let h = laying Q (a .bytes .now) (n .next-line .result .now) (l .at) (l .from) (a .width) (l .inv .0) (l .inv .2) (l .inv .3) (l .inv .4) (l .inv .5) (n .next-line .ensures) in
-    (h .sound, omega (arith, h .narrow, h .room, lent-row (l .cells) (l .from) (a .width) (omega (arith, h .room))))
-
-add-at : tie.Need-add-at Inv-loop μ-loop
-add-at c =
-    let n = c .before .before .before .before in
-    let l = n .before .before .loop in
-    let a = n .before .before .before .before .before .args in
-    let Q = rows (a .width) (linesOf (a .bytes .now)) in
-    let h = laying Q (a .bytes .now) (n .next-line .result .now) (l .at) (l .from) (a .width) (l .inv .0) (l .inv .2) (l .inv .3) (l .inv .4) (l .inv .5) (n .next-line .ensures) in
-    record { fits = omega (arith, h .fits) }
+    let h = laying Q (a .bytes .now) (l .at) (e .result) (l .from) (a .width) (l .inv .0) (l .inv .2) (l .inv .3) (l .inv .4) (l .inv .5) (e .ensures) in
+    (h .line .sound, omega (arith, h .narrow, h .room, lent-row (l .cells) (l .from) (a .width) (omega (arith, h .room))))
 
 same-length : tie.Need-same-length Inv-loop μ-loop
 same-length c = search needs
 
 returns : tie.Need-returns Inv-loop μ-loop
 returns c =
-    let n = c .before .before .before .before .before in
-    let l = n .before .before .loop in
-    let a = n .before .before .before .before .before .args in
+    let e = c .before .before .before .before .before .before .line-end in
+    let l = c .before .before .before .before .before .before .before .loop in
+    let a = c .before .before .before .before .before .before .before .before .before .before .args in
     let Q = rows (a .width) (linesOf (a .bytes .now)) in
-    let h = laying Q (a .bytes .now) (n .next-line .result .now) (l .at) (l .from) (a .width) (l .inv .0) (l .inv .2) (l .inv .3) (l .inv .4) (l .inv .5) (n .next-line .ensures) in
-    row-back Q (a .cells .now) (l .cells) (c .before .before .before .lay-row .last .0) (n .next-line .result .now) (l .from) (a .width) (h .room) (search needs) (h .part) (l .inv .6) (c .before .before .before .lay-row .ensures)
+    let h = laying Q (a .bytes .now) (l .at) (e .result) (l .from) (a .width) (l .inv .0) (l .inv .2) (l .inv .3) (l .inv .4) (l .inv .5) (e .ensures) in
+    row-back Q (a .cells .now) (l .cells) (c .before .before .before .lay-row .last .0) (take (e .result - l .at) (drop (l .at) (a .bytes .now))) (l .from) (a .width) (h .room) (search needs) (h .part) (l .inv .6) (c .before .before .before .lay-row .ensures)
     ∙ ap (λ (k : ℕ). laid (take k Q) (a .cells .now)) (h .last (c .if1 .taken))
     ∙ rw (take-length Q)
 
-add-at-2 : tie.Need-add-at-2 Inv-loop μ-loop
-add-at-2 c =
-    let n = c .before .before .before .before .before in
-    let l = n .before .before .loop in
-    let a = n .before .before .before .before .before .args in
+add-at : tie.Need-add-at Inv-loop μ-loop
+add-at c =
+    let e = c .before .before .before .before .before .before .line-end in
+    let l = c .before .before .before .before .before .before .before .loop in
+    let a = c .before .before .before .before .before .before .before .before .before .before .args in
     let Q = rows (a .width) (linesOf (a .bytes .now)) in
-    let h = laying Q (a .bytes .now) (n .next-line .result .now) (l .at) (l .from) (a .width) (l .inv .0) (l .inv .2) (l .inv .3) (l .inv .4) (l .inv .5) (n .next-line .ensures) in
-    record { fits = omega (arith, h .fits) }
+    let h = laying Q (a .bytes .now) (l .at) (e .result) (l .from) (a .width) (l .inv .0) (l .inv .2) (l .inv .3) (l .inv .4) (l .inv .5) (e .ensures) in
+    record { fits = omega (arith, h .line .fits) }
 
 loop-less : tie.Need-loop-less Inv-loop μ-loop
 loop-less c =
-    let n = c .before .before .before .before .before in
-    let l = n .before .before .loop in
-    let a = n .before .before .before .before .before .args in
+    let e = c .before .before .before .before .before .before .line-end in
+    let l = c .before .before .before .before .before .before .before .loop in
+    let a = c .before .before .before .before .before .before .before .before .before .before .args in
     let Q = rows (a .width) (linesOf (a .bytes .now)) in
-    let h = laying Q (a .bytes .now) (n .next-line .result .now) (l .at) (l .from) (a .width) (l .inv .0) (l .inv .2) (l .inv .3) (l .inv .4) (l .inv .5) (n .next-line .ensures) in
-    omega (arith, h .fits)
+    let h = laying Q (a .bytes .now) (l .at) (e .result) (l .from) (a .width) (l .inv .0) (l .inv .2) (l .inv .3) (l .inv .4) (l .inv .5) (e .ensures) in
+    omega (arith, h .line .begins, h .line .fits)
 
 loop-again : tie.Need-loop-again Inv-loop μ-loop
 loop-again c =
-    let n = c .before .before .before .before .before in
-    let l = n .before .before .loop in
-    let a = n .before .before .before .before .before .args in
+    let e = c .before .before .before .before .before .before .line-end in
+    let l = c .before .before .before .before .before .before .before .loop in
+    let a = c .before .before .before .before .before .before .before .before .before .before .args in
     let Q = rows (a .width) (linesOf (a .bytes .now)) in
-    let h = laying Q (a .bytes .now) (n .next-line .result .now) (l .at) (l .from) (a .width) (l .inv .0) (l .inv .2) (l .inv .3) (l .inv .4) (l .inv .5) (n .next-line .ensures) in
-    let g = h .next (omega (arith, h .fits)) in
-    (omega (arith, h .fits), search needs, g .0, g .1, h .room, g .2, row-back Q (a .cells .now) (l .cells) (c .before .before .before .lay-row .last .0) (n .next-line .result .now) (l .from) (a .width) (h .room) (search needs) (h .part) (l .inv .6) (c .before .before .before .lay-row .ensures))
+    let h = laying Q (a .bytes .now) (l .at) (e .result) (l .from) (a .width) (l .inv .0) (l .inv .2) (l .inv .3) (l .inv .4) (l .inv .5) (e .ensures) in
+    let g = h .next (omega (arith, h .line .fits)) in
+    (omega (arith, h .line .fits), search needs, g .0, g .1, h .room, g .2, row-back Q (a .cells .now) (l .cells) (c .before .before .before .lay-row .last .0) (take (e .result - l .at) (drop (l .at) (a .bytes .now))) (l .from) (a .width) (h .room) (search needs) (h .part) (l .inv .6) (c .before .before .before .lay-row .ensures))
 
 pub lay-lines-spec : {M : Type 1} → statement M
 lay-lines-spec =
@@ -145,19 +154,18 @@ lay-lines-spec =
     Inv-loop
     μ-loop
     loop-holds
-    sub-rest
-    part-rest-start
-    part-rest-end
-    next-line-requires
+    line-end-requires
     add-to
     mul-lay-row
     sub-lay-row
     part-lay-row-start
     part-lay-row-end
+    sub-lay-row-2
+    part-lay-row-start-2
+    part-lay-row-end-2
     lay-row-requires
-    add-at
     same-length
     returns
-    add-at-2
+    add-at
     loop-less
     loop-again)

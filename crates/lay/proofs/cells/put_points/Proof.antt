@@ -1,5 +1,5 @@
 -- Before each turn the code points of what is left of the line are to come.
-use mathlib.Core.Path.{refl, sym, _∙_}
+use mathlib.Core.Path.{refl}
 use Prim.Native.Nat.{_+_, _-_}
 use native.Mathlib.Omega.{arith}
 use lib.ListN.{length}
@@ -13,7 +13,7 @@ use Rattle.lay.proofs.cells.put_points.Statement.{statement}
 use Rattle.lay.proofs.cells.put_points.Tie as tie
 
 abbrev Inv-loop : tie.InvT-loop
-Inv-loop row₀ line at₀ k₀ row at k = Left (sets row₀ 0 (points line)) (length row₀) row line at k
+Inv-loop row₀ line at₀ k₀ row at k = Left (sets row₀ 0 (points line)) (length row₀) (codes line) row line at k
 
 abbrev μ-loop : tie.MeasureT-loop
 μ-loop row₀ line at₀ k₀ row at k = length line - at
@@ -22,7 +22,7 @@ loop-holds : tie.Need-loop-holds Inv-loop μ-loop
 unfolding codes
 loop-holds c =
     let s = c .before .before in
-    record { here = omega arith; rest = s .pre .0; room = omega (arith, s .pre .1); long = refl; same = refl }
+    record { here = omega arith; rest = s .pre .0; room = omega (arith, s .pre .1); count = omega arith; long = refl; same = refl }
 
 run-within-requires : tie.Need-run-within-requires Inv-loop μ-loop
 run-within-requires c κs = c .loop .inv .here

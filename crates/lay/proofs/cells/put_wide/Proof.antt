@@ -1,6 +1,6 @@
 -- Before each turn a code point is to come, and what is left makes the same row.
 use mathlib.Core.Path.{refl}
-use Prim.Native.Nat.{_-_, _≤_, _<_}
+use Prim.Native.Nat.{_+_, _-_, _≤_, _<_}
 use native.Mathlib.Omega.{arith}
 use lib.ListN.{length, drop, length-drop}
 use lib.Seq.{sets}
@@ -14,7 +14,7 @@ use Rattle.lay.proofs.cells.put_wide.Tie as tie
 
 abbrev Inv-loop : tie.InvT-loop
 Inv-loop row₀ k line from at₀ to₀ row at to =
-    (from ≤ at) × (at < length line) × Left (sets row₀ k (points (drop from line))) (length row₀) row line at to
+    (from ≤ at) × (at < length line) × Left (sets row₀ k (points (drop from line))) (length row₀) (k + length (points (drop from line))) row line at to
 
 abbrev μ-loop : tie.MeasureT-loop
 μ-loop row₀ k line from at₀ to₀ row at to = length line - at
@@ -22,7 +22,7 @@ abbrev μ-loop : tie.MeasureT-loop
 loop-holds : tie.Need-loop-holds Inv-loop μ-loop
 loop-holds c =
     let s = c .before .before in
-    (omega arith, s .pre .0, record { here = omega (arith, s .pre .0); rest = s .pre .1; room = s .pre .2; long = refl; same = refl })
+    (omega arith, s .pre .0, record { here = omega (arith, s .pre .0); rest = s .pre .1; room = s .pre .2; count = refl; long = refl; same = refl })
 
 sub-decode : tie.Need-sub-decode Inv-loop μ-loop
 sub-decode c = search needs

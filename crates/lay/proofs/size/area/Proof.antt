@@ -1,10 +1,14 @@
 -- No factor is 0 past the first two tests, so a factor that is past the bound has a product past it; two that are not have a product that fits.
+use Prim.Native.Nat.{ℕ, _+_, _*_, _<_}
 use native.Mathlib.Nat.{mul-comm, mul-le-mul}
 use native.Mathlib.Omega.{arith}
-use Rattle.lay.proofs.Counts.{product-past}
 use borrow.Author.Needs.{needs}
 use Rattle.lay.proofs.size.area.Statement.{statement}
 use Rattle.lay.proofs.size.area.Tie as tie
+
+-- a product of a number past a bound, and one that is not 0
+product-past : (a b n : ℕ) → 0 < b → n < a → n < a * b
+product-past a b n h g = omega (arith, mul-le-mul {n₁ = n + 1} {m₁ = 1} {n₂ = a} {m₂ = b} (omega arith) h)
 
 returns : tie.Need-returns
 returns c = rw (c .if1 .taken) (omega arith)

@@ -1,5 +1,4 @@
 -- Each return is one of the promise's answers.
-use mathlib.Core.Path.{sym, _∙_}
 use native.Mathlib.Omega.{arith}
 use Rattle.picture.proofs.Promised.{stops, passes, no-width, a-space, picture-there, answered-so}
 use borrow.Author.Needs.{needs}
@@ -17,61 +16,52 @@ same-length c = search needs
 
 returns : tie.Need-returns
 returns c =
-    let s = c .before .before .before .before .before .before .before .before .before .before in
-    let a = s .args in
+    let a = c .before .before .before .before .before .before .before .before .before .before .args in
     let t = c .before .before .before .before .start in
-    stops (a .picture .now) (a .canvas .now) (a .table .now) (a .titles .now) (t .last .1 .0) (t .result .answer) (t .result .lines) (t .result .width) (t .ensures) (omega (arith, c .before .reading-number .ensures, c .if1 .taken))
+    stops (a .picture .now) (a .canvas .now) (a .table .now) (a .titles .now) (t .last .1 .0) (t .result .answer) (t .result .lines) (t .result .width) (t .result .spaced) (t .ensures) (omega (arith, c .before .reading-number .ensures, c .if1 .taken))
 
 same-length-2 : tie.Need-same-length-2
 same-length-2 c = search needs
 
 returns-2 : tie.Need-returns-2
 returns-2 c =
-    let s = c .before .before .before .before .before .before .before .before .before .before .before in
-    let a = s .args in
+    let a = c .before .before .before .before .before .before .before .before .before .before .before .args in
     let t = c .before .before .before .before .before .start in
-    let h = passes (a .picture .now) (a .canvas .now) (a .table .now) (a .titles .now) (t .last .1 .0) (t .result .answer) (t .result .lines) (t .result .width) (t .ensures) (omega (arith, c .before .before .reading-number .ensures, c .before .if1 .left)) in
-    no-width (a .picture .now) (a .canvas .now) (a .table .now) (a .titles .now) (t .last .1 .0) (t .result .answer) (t .result .lines) (t .result .width) (t .ensures) h (c .if2 .taken)
-
-spaced-requires : tie.Need-spaced-requires
-spaced-requires c κs = search needs
+    let h = passes (a .picture .now) (a .canvas .now) (a .table .now) (a .titles .now) (t .last .1 .0) (t .result .answer) (t .result .lines) (t .result .width) (t .result .spaced) (t .ensures) (omega (arith, c .before .before .reading-number .ensures, c .before .if1 .left)) in
+    no-width (a .picture .now) (a .canvas .now) (a .table .now) (a .titles .now) (t .last .1 .0) (t .result .answer) (t .result .lines) (t .result .width) (t .result .spaced) (t .ensures) h (c .if2 .taken)
 
 same-length-3 : tie.Need-same-length-3
 same-length-3 c = search needs
 
 returns-3 : tie.Need-returns-3
 returns-3 c =
-    let s = c .before .before .before .before .before .before .before .before .before .before .before .before .before in
-    let a = s .args in
-    let t = c .before .before .before .before .before .before .before .start in
-    let h = passes (a .picture .now) (a .canvas .now) (a .table .now) (a .titles .now) (t .last .1 .0) (t .result .answer) (t .result .lines) (t .result .width) (t .ensures) (omega (arith, c .before .before .before .before .reading-number .ensures, c .before .before .before .if1 .left)) in
-    a-space (a .picture .now) (a .canvas .now) (a .table .now) (a .titles .now) (t .last .1 .0) (t .result .answer) (t .result .lines) (t .result .width) (t .ensures) h (sym (c .before .spaced .ensures) ∙ c .if3 .taken)
+    let a = c .before .before .before .before .before .before .before .before .before .before .before .before .args in
+    let t = c .before .before .before .before .before .before .start in
+    let h = passes (a .picture .now) (a .canvas .now) (a .table .now) (a .titles .now) (t .last .1 .0) (t .result .answer) (t .result .lines) (t .result .width) (t .result .spaced) (t .ensures) (omega (arith, c .before .before .before .reading-number .ensures, c .before .before .if1 .left)) in
+    a-space (a .picture .now) (a .canvas .now) (a .table .now) (a .titles .now) (t .last .1 .0) (t .result .answer) (t .result .lines) (t .result .width) (t .result .spaced) (t .ensures) h (c .if3 .taken)
 
 cast-look : tie.Need-cast-look
 cast-look c =
-    let s = c .before .before .before .before .before .before .before .before .before .before .before .before .before .before in
-    let a = s .args in
-    let t = c .before .before .before .before .before .before .before .before .start in
-    let h = passes (a .picture .now) (a .canvas .now) (a .table .now) (a .titles .now) (t .last .1 .0) (t .result .answer) (t .result .lines) (t .result .width) (t .ensures) (omega (arith, c .before .before .before .before .before .reading-number .ensures, c .before .before .before .before .if1 .left)) in
-    let q = picture-there (a .picture .now) (a .canvas .now) (a .table .now) (a .titles .now) (t .last .1 .0) (t .result .answer) (t .result .lines) (t .result .width) (t .ensures) h (omega (arith, c .before .before .before .if2 .left)) in
+    let a = c .before .before .before .before .before .before .before .before .before .before .before .before .before .args in
+    let t = c .before .before .before .before .before .before .before .start in
+    let h = passes (a .picture .now) (a .canvas .now) (a .table .now) (a .titles .now) (t .last .1 .0) (t .result .answer) (t .result .lines) (t .result .width) (t .result .spaced) (t .ensures) (omega (arith, c .before .before .before .before .reading-number .ensures, c .before .before .before .if1 .left)) in
+    let q = picture-there (a .picture .now) (a .canvas .now) (a .table .now) (a .titles .now) (t .last .1 .0) (t .result .answer) (t .result .lines) (t .result .width) (t .result .spaced) (t .ensures) h (omega (arith, c .before .before .if2 .left)) in
     record { fits = omega (arith, q .wide) }
 
 cast-look-2 : tie.Need-cast-look-2
 cast-look-2 c =
-    let s = c .before .before .before .before .before .before .before .before .before .before .before .before .before .before in
-    let a = s .args in
-    let t = c .before .before .before .before .before .before .before .before .start in
-    let h = passes (a .picture .now) (a .canvas .now) (a .table .now) (a .titles .now) (t .last .1 .0) (t .result .answer) (t .result .lines) (t .result .width) (t .ensures) (omega (arith, c .before .before .before .before .before .reading-number .ensures, c .before .before .before .before .if1 .left)) in
-    let q = picture-there (a .picture .now) (a .canvas .now) (a .table .now) (a .titles .now) (t .last .1 .0) (t .result .answer) (t .result .lines) (t .result .width) (t .ensures) h (omega (arith, c .before .before .before .if2 .left)) in
+    let a = c .before .before .before .before .before .before .before .before .before .before .before .before .before .args in
+    let t = c .before .before .before .before .before .before .before .start in
+    let h = passes (a .picture .now) (a .canvas .now) (a .table .now) (a .titles .now) (t .last .1 .0) (t .result .answer) (t .result .lines) (t .result .width) (t .result .spaced) (t .ensures) (omega (arith, c .before .before .before .before .reading-number .ensures, c .before .before .before .if1 .left)) in
+    let q = picture-there (a .picture .now) (a .canvas .now) (a .table .now) (a .titles .now) (t .last .1 .0) (t .result .answer) (t .result .lines) (t .result .width) (t .result .spaced) (t .ensures) h (omega (arith, c .before .before .if2 .left)) in
     record { fits = omega (arith, q .high) }
 
 look-requires : tie.Need-look-requires
 look-requires c κs =
-    let s = c .before .before .before .before .before .before .before .before .before .before .before .before .before .before .before .before in
-    let a = s .args in
-    let t = c .before .before .before .before .before .before .before .before .before .before .start in
-    let h = passes (a .picture .now) (a .canvas .now) (a .table .now) (a .titles .now) (t .last .1 .0) (t .result .answer) (t .result .lines) (t .result .width) (t .ensures) (omega (arith, c .before .before .before .before .before .before .before .reading-number .ensures, c .before .before .before .before .before .before .if1 .left)) in
-    picture-there (a .picture .now) (a .canvas .now) (a .table .now) (a .titles .now) (t .last .1 .0) (t .result .answer) (t .result .lines) (t .result .width) (t .ensures) h (omega (arith, c .before .before .before .before .before .if2 .left))
+    let a = c .before .before .before .before .before .before .before .before .before .before .before .before .before .before .before .args in
+    let t = c .before .before .before .before .before .before .before .before .before .start in
+    let h = passes (a .picture .now) (a .canvas .now) (a .table .now) (a .titles .now) (t .last .1 .0) (t .result .answer) (t .result .lines) (t .result .width) (t .result .spaced) (t .ensures) (omega (arith, c .before .before .before .before .before .before .reading-number .ensures, c .before .before .before .before .before .if1 .left)) in
+    picture-there (a .picture .now) (a .canvas .now) (a .table .now) (a .titles .now) (t .last .1 .0) (t .result .answer) (t .result .lines) (t .result .width) (t .result .spaced) (t .ensures) h (omega (arith, c .before .before .before .before .if2 .left))
 
 same-length-4 : tie.Need-same-length-4
 same-length-4 c = search needs
@@ -84,12 +74,11 @@ same-length-6 c = search needs
 
 returns-4 : tie.Need-returns-4
 returns-4 c =
-    let s = c .before .before .before .before .before .before .before .before .before .before .before .before .before .before .before .before .before .before .before .before .before in
-    let a = s .args in
-    let t = c .before .before .before .before .before .before .before .before .before .before .before .before .before .before .before .start in
-    let h = passes (a .picture .now) (a .canvas .now) (a .table .now) (a .titles .now) (t .last .1 .0) (t .result .answer) (t .result .lines) (t .result .width) (t .ensures) (omega (arith, c .before .before .before .before .before .before .before .before .before .before .before .before .reading-number .ensures, c .before .before .before .before .before .before .before .before .before .before .before .if1 .left)) in
+    let a = c .before .before .before .before .before .before .before .before .before .before .before .before .before .before .before .before .before .before .before .before .args in
+    let t = c .before .before .before .before .before .before .before .before .before .before .before .before .before .before .start in
+    let h = passes (a .picture .now) (a .canvas .now) (a .table .now) (a .titles .now) (t .last .1 .0) (t .result .answer) (t .result .lines) (t .result .width) (t .result .spaced) (t .ensures) (omega (arith, c .before .before .before .before .before .before .before .before .before .before .before .reading-number .ensures, c .before .before .before .before .before .before .before .before .before .before .if1 .left)) in
     let l = c .before .before .before .before .look in
-    answered-so (a .picture .now) (a .canvas .now) (a .table .now) (a .titles .now) (t .last .1 .0) (t .result .answer) (t .result .lines) (t .result .width) (t .ensures) h (l .result) (l .last .1 .1 .1 .0) (l .last .1 .1 .1 .1 .0) (sym (c .before .before .before .before .before .before .before .before .before .spaced .ensures) ∙ c .before .before .before .before .before .before .before .before .if3 .left) (l .ensures)
+    answered-so (a .picture .now) (a .canvas .now) (a .table .now) (a .titles .now) (t .last .1 .0) (t .result .answer) (t .result .lines) (t .result .width) (t .result .spaced) (t .ensures) h (l .result) (l .last .1 .1 .1 .0) (l .last .1 .1 .1 .1 .0) (c .before .before .before .before .before .before .before .before .if3 .left) (l .ensures)
 
 pub read-spec : {M : Type 1} → statement M
 read-spec =
@@ -101,7 +90,6 @@ read-spec =
     returns
     same-length-2
     returns-2
-    spaced-requires
     same-length-3
     returns-3
     cast-look

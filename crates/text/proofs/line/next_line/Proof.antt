@@ -16,23 +16,20 @@ Inv-loop rest end₀ end = (end ≤ length rest) × ((k : ℕ) → k < end → g
 abbrev μ-loop : tie.MeasureT-loop
 μ-loop rest end₀ end = length rest - end
 
-run-within-requires : tie.Need-run-within-requires Inv-loop μ-loop
-run-within-requires c κs = search needs
-
 loop-holds : tie.Need-loop-holds Inv-loop μ-loop
-loop-holds c = (search needs, λ k h e. absurd (omega (arith, c .run-within .ensures .2 k (omega arith) h .0)))
+loop-holds c = (search needs, λ k h. absurd (omega arith))
 
 shared-slice-read-if1 : tie.Need-shared-slice-read-if1 Inv-loop μ-loop
 shared-slice-read-if1 c = search needs
 
 slice-aggregate-result : tie.Need-slice-aggregate-result Inv-loop μ-loop
 slice-aggregate-result c =
-    sym (length-take-le (c .before .before .before .before .loop .end) (c .before .before .before .before .before .before .before .args .rest .now) (omega arith))
+    sym (length-take-le (c .before .before .before .before .loop .end) (c .before .before .before .before .before .args .rest .now) (omega arith))
 
 returns : tie.Need-returns Inv-loop μ-loop
 returns c =
     let l = c .before .before .before .before .loop in
-    sym (line-until (c .before .before .before .before .before .before .before .args .rest .now) (l .end) (search needs) (l .inv .1) (λ h. c .before .if1 .taken))
+    sym (line-until (c .before .before .before .before .before .args .rest .now) (l .end) (search needs) (l .inv .1) (λ h. c .before .if1 .taken))
 
 add-end : tie.Need-add-end Inv-loop μ-loop
 add-end c = search needs
@@ -44,12 +41,12 @@ loop-again : tie.Need-loop-again Inv-loop μ-loop
 loop-again c = (search needs, below-more _ _ (c .before .before .before .loop .inv .1) (c .if1 .left))
 
 slice-aggregate-result-2 : tie.Need-slice-aggregate-result-2 Inv-loop μ-loop
-slice-aggregate-result-2 c = sym (length-take-le (c .before .before .loop .end) (c .before .before .before .before .before .args .rest .now) (omega arith))
+slice-aggregate-result-2 c = sym (length-take-le (c .before .before .loop .end) (c .before .before .before .args .rest .now) (omega arith))
 
 returns-2 : tie.Need-returns-2 Inv-loop μ-loop
 returns-2 c =
     let l = c .before .before .loop in
-    sym (line-until (c .before .before .before .before .before .args .rest .now) (l .end) (search needs) (l .inv .1) (λ h. absurd (omega arith)))
+    sym (line-until (c .before .before .before .args .rest .now) (l .end) (search needs) (l .inv .1) (λ h. absurd (omega arith)))
 
 pub next-line-spec : {M : Type 1} → statement M
 next-line-spec =
@@ -57,7 +54,6 @@ next-line-spec =
     (tie.spec
     Inv-loop
     μ-loop
-    run-within-requires
     loop-holds
     shared-slice-read-if1
     slice-aggregate-result

@@ -1,9 +1,9 @@
--- Sixteen bytes more join the run, and then those to its end.
+-- Sixteen bytes more join the run, and then those to its end, or those of a long run.
 use Prim.Native.Nat.{_+_, _≤_, _-_}
 use native.Mathlib.Omega.{arith}
 use lib.ListN.{length}
 use Rattle.text.specs.Within.{Within}
-use Rattle.text.proofs.Within.{within-none, within-join}
+use Rattle.text.proofs.Within.{within-none, run-on}
 use borrow.Author.Needs.{needs}
 use Rattle.text.proofs.run.run_within.Statement.{statement}
 use Rattle.text.proofs.run.run_within.Tie as tie
@@ -20,6 +20,18 @@ loop-holds c = (let a = c .before .args in (search needs, search needs, within-n
 sub-loop : tie.Need-sub-loop Inv-loop μ-loop
 sub-loop c = search needs
 
+sub-if1 : tie.Need-sub-if1 Inv-loop μ-loop
+sub-if1 c = search needs
+
+long-within-requires : tie.Need-long-within-requires Inv-loop μ-loop
+long-within-requires c κs = search needs
+
+returns : tie.Need-returns Inv-loop μ-loop
+returns c =
+    let l = c .before .before .before .loop in
+    let a = c .before .before .before .before .before .args in
+    run-on (a .s .now) (a .low) (a .high) (a .from) (l .at) _ (l .inv) (c .long-within .ensures)
+
 sixteen-within-requires : tie.Need-sixteen-within-requires Inv-loop μ-loop
 sixteen-within-requires c κs = search needs
 
@@ -31,29 +43,27 @@ loop-less c = search needs
 
 loop-again : tie.Need-loop-again Inv-loop μ-loop
 loop-again c =
-    let l = c .before .before .before .loop in
-    let a = c .before .before .before .before .before .args in
-    (omega arith, omega arith, within-join (a .s .now) (a .low) (a .high) (a .from) (l .at) (l .at + 16) (l .inv .2) (c .before .sixteen-within .ensures (c .if1 .taken)))
+    let l = c .before .before .before .before .loop in
+    let a = c .before .before .before .before .before .before .args in
+    run-on (a .s .now) (a .low) (a .high) (a .from) (l .at) (l .at + 16) (l .inv) (omega arith, omega arith, c .before .sixteen-within .ensures (c .if2 .taken))
 
 end-within-requires : tie.Need-end-within-requires Inv-loop μ-loop
 end-within-requires c κs = search needs
 
-returns : tie.Need-returns Inv-loop μ-loop
-returns c =
-    let l = c .before .before .before .before .loop in
-    let a = c .before .before .before .before .before .before .args in
-    let e = c .end-within in
-    (omega (arith, e .ensures .0), e .ensures .1, within-join (a .s .now) (a .low) (a .high) (a .from) (l .at) (e .result) (l .inv .2) (e .ensures .2))
+returns-2 : tie.Need-returns-2 Inv-loop μ-loop
+returns-2 c =
+    let l = c .before .before .before .before .before .loop in
+    let a = c .before .before .before .before .before .before .before .args in
+    run-on (a .s .now) (a .low) (a .high) (a .from) (l .at) _ (l .inv) (c .end-within .ensures)
 
 end-within-requires-2 : tie.Need-end-within-requires-2 Inv-loop μ-loop
 end-within-requires-2 c κs = search needs
 
-returns-2 : tie.Need-returns-2 Inv-loop μ-loop
-returns-2 c =
+returns-3 : tie.Need-returns-3 Inv-loop μ-loop
+returns-3 c =
     let l = c .before .before .loop in
     let a = c .before .before .before .before .args in
-    let e = c .end-within2 in
-    (omega (arith, e .ensures .0), e .ensures .1, within-join (a .s .now) (a .low) (a .high) (a .from) (l .at) (e .result) (l .inv .2) (e .ensures .2))
+    run-on (a .s .now) (a .low) (a .high) (a .from) (l .at) _ (l .inv) (c .end-within2 .ensures)
 
 pub run-within-spec : {M : Type 1} → statement M
 run-within-spec =
@@ -63,11 +73,14 @@ run-within-spec =
     μ-loop
     loop-holds
     sub-loop
+    sub-if1
+    long-within-requires
+    returns
     sixteen-within-requires
     add-at
     loop-less
     loop-again
     end-within-requires
-    returns
+    returns-2
     end-within-requires-2
-    returns-2)
+    returns-3)

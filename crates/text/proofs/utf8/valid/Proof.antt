@@ -1,4 +1,4 @@
--- No byte above 7F settles it; else it is settled byte by byte.
+-- No byte above 7F settles it, or neighbouring bytes do; else it is settled byte by byte.
 use mathlib.Core.Path.{sym}
 use Rattle.text.proofs.Ascii.{plain-valid}
 use borrow.Author.Needs.{needs}
@@ -11,11 +11,18 @@ plain-requires c κs = search needs
 returns : tie.Need-returns
 returns c = sym (plain-valid (c .before .before .before .args .s .now) (c .before .plain .ensures (c .if1 .taken)))
 
+settled-requires : tie.Need-settled-requires
+settled-requires c κs = search needs
+
+returns-2 : tie.Need-returns-2
+returns-2 c = sym (c .before .settled .ensures (c .if2 .taken))
+
 steps-requires : tie.Need-steps-requires
 steps-requires c κs = search needs
 
-returns-2 : tie.Need-returns-2
-returns-2 c = search needs
+returns-3 : tie.Need-returns-3
+returns-3 c = search needs
 
 pub valid-spec : {M : Type 1} → statement M
-valid-spec = tie.close (tie.spec plain-requires returns steps-requires returns-2)
+valid-spec =
+    tie.close (tie.spec plain-requires returns settled-requires returns-2 steps-requires returns-3)
