@@ -78,7 +78,7 @@ fn compared(
 }
 
 // A canvas of the plan's size, whose columns and rows are placed, is the plan's drawing.
-fn matches(
+fn matches<'a>(
     cells: &[u32],
     width: u32,
     height: u32,
@@ -89,8 +89,8 @@ fn matches(
     middle: &[u32; 256],
     lines: &[u32; 256],
     longest: &[u32; 256],
-    cx: &[u32; 256],
-    xs: &[u32; 256],
+    cx: &'a [u32; 256],
+    xs: &'a [u32; 256],
     ncols: u32,
     cy: &[u32; 32],
     ys: &[u32; 32],
@@ -144,25 +144,13 @@ pub fn same(
     let nrows = levels::rows(table, nodes);
     let ncols = levels::columns(table, nodes, &mut column);
     let d = tree_view::index_digits(nrows);
-    let mut xs = [0u32; 256];
-    let mut ws = [6u32; 256];
-    let mut cx = [0u32; 256];
-    tree_view::tree_columns(
-        nodes,
-        &column,
-        longest,
-        ncols,
-        d + 4,
-        &mut xs,
-        &mut ws,
-        &mut cx,
-    );
+    let columns = tree_view::tree_columns(nodes, &column, longest, ncols, d + 4);
     let rows = tree_view::tree_rows(table, nodes, lines, nrows);
     if sized(
         width,
         height,
-        &xs,
-        &ws,
+        &columns.offset,
+        &columns.width,
         ncols,
         &rows.offset,
         &rows.height,
@@ -181,8 +169,8 @@ pub fn same(
             middle,
             lines,
             longest,
-            &cx,
-            &xs,
+            &columns.center,
+            &columns.offset,
             ncols,
             &cy,
             &rows.offset,

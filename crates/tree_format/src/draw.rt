@@ -118,22 +118,10 @@ fn measured(
 {
     let nrows = levels::rows(table, nodes);
     let d = tree_view::index_digits(nrows);
-    let mut offset = [0u32; 256];
-    let mut width = [6u32; 256];
-    let mut cx = [0u32; 256];
-    tree_view::tree_columns(
-        nodes,
-        column,
-        longest,
-        ncols,
-        d + 4,
-        &mut offset,
-        &mut width,
-        &mut cx,
-    );
+    let columns = tree_view::tree_columns(nodes, column, longest, ncols, d + 4);
     let rows = tree_view::tree_rows(table, nodes, lines, nrows);
     let size = Size {
-        width: tree_view::canvas_width(&offset, &width, ncols),
+        width: tree_view::canvas_width(&columns.offset, &columns.width, ncols),
         height: tree_view::canvas_height(&rows.offset, &rows.height, nrows),
     };
     let mut cy = [0u32; 32];
@@ -145,7 +133,7 @@ fn measured(
         column,
         lines,
         longest,
-        &cx,
+        &columns.center,
         ncols,
         &cy,
         &rows.offset,

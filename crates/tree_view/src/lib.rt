@@ -21,6 +21,7 @@ pub use lines::measures;
 pub use size::area;
 pub use size::index_digits;
 pub use size::large;
+pub use widths::Columns;
 pub use widths::canvas_width;
 pub use widths::middles;
 pub use widths::tree_columns;

@@ -1,10 +1,16 @@
-// Offsets, widths and centres of all columns, in arrays that are lent: three of 256 entries are too much to copy.
+// Offsets, widths and centres of all columns.
 use crate::cell;
 ghost use mathlib.Core.Path.{_≡_};
 ghost use Prim.Native.Nat.{ℕ, _+_, _-_, _≤_, _<_, _^_};
 ghost use lib.ListN.{getD, replicate};
 ghost use Rattle.levels.specs.Filled.{filled};
 ghost use Rattle.tree_view.specs.Sizes.{widthIn, Wide, offsetIn, centreIn, sumAt, middleAt};
+
+pub struct Columns {
+    pub offset: [u32; 256],
+    pub width: [u32; 256],
+    pub center: [u32; 256],
+}
 
 // Raises width[column[k]] to longest[k] + 6, for every node k.
 fn widen(nodes: usize, column: &[u32; 256], longest: &[u32; 256], width: &mut [u32; 256])
@@ -20,34 +26,37 @@ fn widen(nodes: usize, column: &[u32; 256], longest: &[u32; 256], width: &mut [u
     }
 }
 
-// The columns of a plan: `count` of them, the first at `start`; cx[j] is the centre of column j on the canvas.
+// The columns of a plan: `count` of them, the first at `start`; center[j] is the centre of column j on the canvas.
 pub fn tree_columns(
     nodes: usize,
     column: &[u32; 256],
     longest: &[u32; 256],
     count: u32,
     start: u32,
-    offset: &mut [u32; 256],
-    width: &mut [u32; 256],
-    cx: &mut [u32; 256],
-)
+) -> Columns
     requires { ⌜ Wide (now column) (now longest) nodes ⌝ }
-    requires { ⌜ (count ≤ 256) × (start ≤ 256) × (now width ≡ replicate 256 6) ⌝ }
-    ensures { λ r. ⌜ now (offset .exit) ≡ filled (offsetIn (now (column .entry)) (now (longest .entry)) nodes start) 0 count (now (offset .entry)) ⌝ }
-    ensures { λ r. ⌜ now (width .exit) ≡ filled (widthIn (now (column .entry)) (now (longest .entry)) nodes) 0 256 (now (width .entry)) ⌝ }
-    ensures { λ r. ⌜ now (cx .exit) ≡ filled (centreIn (now (column .entry)) (now (longest .entry)) nodes start) 0 count (now (cx .entry)) ⌝ }
+    requires { ⌜ (count ≤ 256) × (start ≤ 256) ⌝ }
+    ensures { λ r. ⌜ r .offset ≡ filled (offsetIn (now (column .entry)) (now (longest .entry)) nodes start) 0 count (replicate 256 0) ⌝ }
+    ensures { λ r. ⌜ r .width ≡ filled (widthIn (now (column .entry)) (now (longest .entry)) nodes) 0 256 (replicate 256 6) ⌝ }
+    ensures { λ r. ⌜ r .center ≡ filled (centreIn (now (column .entry)) (now (longest .entry)) nodes start) 0 count (replicate 256 0) ⌝ }
 {
-    widen(nodes, column, longest, width);
+    let mut c = Columns {
+        offset: [0u32; 256],
+        width: [6u32; 256],
+        center: [0u32; 256],
+    };
+    widen(nodes, column, longest, &mut c.width);
     let n = text::wide(count);
     let mut x = start;
     let mut j = 0;
     while j < n {
-        let w = width[j];
-        offset[j] = x;
-        cx[j] = x + cell::half_up(w);
+        let w = c.width[j];
+        c.offset[j] = x;
+        c.center[j] = x + cell::half_up(w);
         x += w;
         j += 1;
     }
+    c
 }
 
 // The canvas' width: one less than where the last of `count` columns ends (there is one).

@@ -33,31 +33,27 @@ add-tree-columns c =
 
 tree-columns-requires : tie.Need-tree-columns-requires
 tree-columns-requires c κs =
-    let g = c .before .before .before .before in
-    let k = g .before .columns .ensures in
-    let o = g .before .before .before in
-    let v = o .before .before .before .pre in
-    let r = rows-view v _ (o .rows .ensures) in (
+    let v = c .before .before .before .before .before .before .before .pre in
+    let r = rows-view v _ (c .before .before .before .before .rows .ensures) in
+    let k = c .before .before .columns .ensures in (
       columns-ask v _ (column-of v _ (k .1)),
       (
         omega (arith, columns-view v _ (k .0), columns-le _ (limits v)),
-        omega (arith, digits-few v _ (digits-are v _ _ r (g .index-digits .ensures))),
-        refl,
+        omega (arith, digits-few v _ (digits-are v _ _ r (c .before .index-digits .ensures))),
       ),
     )
 
 tree-rows-requires : tie.Need-tree-rows-requires
 tree-rows-requires c κs =
-    let o = c .before .before .before .before .before .before .before .before in
-    let v = o .before .before .before .pre in
-    let r = rows-view v _ (o .rows .ensures) in
+    let v = c .before .before .before .before .before .before .before .before .pre in
+    let r = rows-view v _ (c .before .before .before .before .before .rows .ensures) in
     ((omega (arith, table-long v), rows-ask v), omega (arith, r, rows-le _ (limits v)))
 
 sized-requires : tie.Need-sized-requires
 sized-requires c κs =
-    let t = c .before .before .before .before .before in
+    let t = c .before .before .before .before .before .before in
     let u = t .before in
-    let g = u .before .before .before .before .before in
+    let g = u .before .before in
     let q = g .before in
     let o = q .before .before in
     let s = o .before .before .before in
@@ -69,9 +65,9 @@ sized-requires c κs =
 
 row-centers-requires : tie.Need-row-centers-requires
 row-centers-requires c κs =
-    let t = c .before .before .before .before .before .before .before .before .before .before .before in
+    let t = c .before .before .before .before .before .before .before .before .before .before .before .before in
     let u = t .before in
-    let g = u .before .before .before .before .before in
+    let g = u .before .before in
     let q = g .before in
     let o = q .before .before in
     let s = o .before .before .before in
@@ -83,12 +79,12 @@ row-centers-requires c κs =
 
 matches-requires : tie.Need-matches-requires
 matches-requires c κs =
-    let y = c .before .before .before .before .before .before in
+    let y = c .before .before .before .before .before .before .before in
     let i = y .before .before .before .before .before in
     let z = i .before in
-    let t = z .before .before .before .before .before .before in
+    let t = z .before .before .before .before .before .before .before in
     let u = t .before in
-    let g = u .before .before .before .before .before in
+    let g = u .before .before in
     let q = g .before in
     let o = q .before .before in
     let s = o .before .before .before in
@@ -105,9 +101,9 @@ returns c = c .matches .ensures
 returns-2 : tie.Need-returns-2
 returns-2 c =
     let z = c .before in
-    let t = z .before .before .before .before .before .before in
+    let t = z .before .before .before .before .before .before .before in
     let u = t .before in
-    let g = u .before .before .before .before .before in
+    let g = u .before .before in
     let q = g .before in
     let o = q .before .before in
     let s = o .before .before .before in

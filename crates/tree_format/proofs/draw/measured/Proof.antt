@@ -39,52 +39,48 @@ add-tree-columns c =
 
 tree-columns-requires : tie.Need-tree-columns-requires
 tree-columns-requires c κs =
-    let i = c .before .before .before in
-    let o = i .before in
-    let s = o .before .before .before .before .before in
+    let s = c .before .before .before .before .before .before in
     let a = checked-accepted true (s .args .table .now) (s .args .titles .now) (s .pre .0 .0) in
     let n = s .args .nodes in
     let m = s .pre .1 .0 in
     let p = planOf (s .args .table .now) (s .args .titles .now) in
-    let r = rows-view a n (s .pre .0 .1) (o .rows .result) (o .rows .ensures) in
-    let e = digits-ruled a n (s .pre .0 .1) (o .rows .result) (i .index-digits .result) r (i .index-digits .ensures) in
+    let r = rows-view a n (s .pre .0 .1) (c .before .rows .result) (c .before .rows .ensures) in
+    let e = digits-ruled a n (s .pre .0 .1) (c .before .rows .result) (c .index-digits .result) r (c .index-digits .ensures) in
     let k = count-view a n (s .pre .0 .1) (s .args .ncols) (s .pre .1 .1) in (
       columns-ask a n (s .pre .0 .1) (s .args .column .now) (s .args .longest .now) (replicate 256 0) (replicate 256 0)
           (rw (s .pre .0 .1) (m .columns-are)) refl (rw (s .pre .0 .1) (m .longest-are)) refl,
-      (omega (arith, k, columns-le p (small a)), omega (arith, e, d-le p (small a)), refl),
+      (omega (arith, k, columns-le p (small a)), omega (arith, e, d-le p (small a))),
     )
 
 tree-rows-requires : tie.Need-tree-rows-requires
 tree-rows-requires c κs =
-    let o = c .before .before .before .before .before in
-    let s = o .before .before .before .before .before in
+    let s = c .before .before .before .before .before .before .before in
     let a = checked-accepted true (s .args .table .now) (s .args .titles .now) (s .pre .0 .0) in
     let n = s .args .nodes in
-    let r = rows-view a n (s .pre .0 .1) (o .rows .result) (o .rows .ensures) in (
+    let r = rows-view a n (s .pre .0 .1) (c .before .before .rows .result) (c .before .before .rows .ensures) in (
       (omega (arith, a .whole, s .pre .0 .1), rows-ask a n (s .pre .0 .1) (s .args .lines .now) (replicate 256 0) (rw (s .pre .0 .1) (s .pre .1 .0 .lines-are)) refl),
       omega (arith, r, rows-le (planOf (s .args .table .now) (s .args .titles .now)) (small a)),
     )
 
 canvas-width-requires : tie.Need-canvas-width-requires
 canvas-width-requires c κs =
-    let t = c .before .before in
+    let t = c .before .before .before in
     let u = t .before in
-    let i = u .before .before .before .before in
+    let i = u .before in
     let o = i .before in
     let s = o .before .before .before .before .before in
     let a = checked-accepted true (s .args .table .now) (s .args .titles .now) (s .pre .0 .0) in
     let n = s .args .nodes in
     let m = s .pre .1 .0 in
-    let cs = columns-answered a m n (s .args .ncols) (o .rows .result) (i .index-digits .result) (u .tree-columns .last .1 .1 .1 .1 .1 .0) (u .tree-columns .last .1 .1 .1 .1 .1 .1 .0) (u .tree-columns .last .1 .1 .1 .1 .1 .1 .1 .0)
-    (s .pre .0 .1) (s .pre .1 .1) (o .rows .ensures) (i .index-digits .ensures) (u .tree-columns .ensures) in
+    let cs = columns-answered a m n (s .args .ncols) (o .rows .result) (i .index-digits .result) _ _ _ (s .pre .0 .1) (s .pre .1 .1) (o .rows .ensures) (i .index-digits .ensures) (u .tree-columns .ensures) in
     let some = checked-some (s .args .table .now) (s .args .titles .now) (s .pre .0 .0) in
     width-asks a n (s .pre .0 .1) cs (omega (arith, some, s .pre .0 .1))
 
 canvas-height-requires : tie.Need-canvas-height-requires
 canvas-height-requires c κs =
-    let t = c .before .before .before .before .before .before in
+    let t = c .before .before .before .before .before .before .before in
     let u = t .before in
-    let i = u .before .before .before .before in
+    let i = u .before in
     let o = i .before in
     let s = o .before .before .before .before .before in
     let a = checked-accepted true (s .args .table .now) (s .args .titles .now) (s .pre .0 .0) in
@@ -96,9 +92,9 @@ canvas-height-requires c κs =
 
 row-centers-requires : tie.Need-row-centers-requires
 row-centers-requires c κs =
-    let t = c .before .before .before .before .before .before .before .before .before .before .before in
+    let t = c .before .before .before .before .before .before .before .before .before .before .before .before in
     let u = t .before in
-    let i = u .before .before .before .before in
+    let i = u .before in
     let o = i .before in
     let s = o .before .before .before .before .before in
     let a = checked-accepted true (s .args .table .now) (s .args .titles .now) (s .pre .0 .0) in
@@ -111,19 +107,18 @@ row-centers-requires c κs =
 
 sized-requires : tie.Need-sized-requires
 sized-requires c κs =
-    let y = c .before .before .before .before .before .before in
+    let y = c .before .before .before .before .before .before .before in
     let h = y .before .before .before .before .before in
     let w = h .before .before .before .before in
-    let t = w .before .before .before in
+    let t = w .before .before .before .before in
     let u = t .before in
-    let i = u .before .before .before .before in
+    let i = u .before in
     let o = i .before in
     let s = o .before .before .before .before .before in
     let a = checked-accepted true (s .args .table .now) (s .args .titles .now) (s .pre .0 .0) in
     let n = s .args .nodes in
     let m = s .pre .1 .0 in
-    let cs = columns-answered a m n (s .args .ncols) (o .rows .result) (i .index-digits .result) (u .tree-columns .last .1 .1 .1 .1 .1 .0) (u .tree-columns .last .1 .1 .1 .1 .1 .1 .0) (u .tree-columns .last .1 .1 .1 .1 .1 .1 .1 .0)
-    (s .pre .0 .1) (s .pre .1 .1) (o .rows .ensures) (i .index-digits .ensures) (u .tree-columns .ensures) in
+    let cs = columns-answered a m n (s .args .ncols) (o .rows .result) (i .index-digits .result) _ _ _ (s .pre .0 .1) (s .pre .1 .1) (o .rows .ensures) (i .index-digits .ensures) (u .tree-columns .ensures) in
     let r = rows-view a n (s .pre .0 .1) (o .rows .result) (o .rows .ensures) in
     let rs = rows-answered a m n (o .rows .result) (t .tree-rows .result) (s .pre .0 .1) (o .rows .ensures) (t .tree-rows .ensures) in
     let some = checked-some (s .args .table .now) (s .args .titles .now) (s .pre .0 .0) in (
