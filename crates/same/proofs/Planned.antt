@@ -17,15 +17,15 @@ use Rattle.levels.specs.Filled.{filled}
 use Rattle.levels.proofs.Plans.{column-bytes, columns-bytes, rows-bytes}
 use Rattle.marks.specs.Numbers.{Numbers}
 use Rattle.sight.specs.Plan.{planSeen}
-use Rattle.tree_view.specs.declared.widths.Columns.{Columns}
 use Rattle.tree_view.specs.declared.heights.Rows.{Rows}
 use Rattle.tree_view.specs.Measured.{linesAt, longestAt}
-use Rattle.tree_view.specs.Sizes.{Wide, High, columnsIn, rowsIn, sumAt}
+use Rattle.tree_view.specs.Sizes.{Wide, High, widthIn, offsetIn, centreIn, rowsIn, sumAt}
+use Rattle.tree_view.specs.Ruled.{RuledColumns, ruledRows}
 use Rattle.tree_view.proofs.Laid.{at-whole}
-use Rattle.tree_view.proofs.Limits.{width-ge, columns-le, rows-le, d-le, cx-le, cy-le, canvas-width-le, canvas-height-le}
+use Rattle.tree_view.proofs.Limits.{width-ge, columns-le, rows-le, d-le, cy-le, canvas-width-le, canvas-height-le}
 use Rattle.tree_view.proofs.Nodes.{longest-at-le, lines-at-le}
 use Rattle.tree_view.proofs.Ruled.{view-columns, view-rows, columns-ruled, rows-ruled, column-offset-at, column-width-at, columns-end, cx-at, row-offset-at, rows-end, cy-at}
-use Rattle.same.specs.Given.{Given, Laid}
+use Rattle.same.specs.Given.{Given}
 use Rattle.same.proofs.Tables.{length-table, depth-table, plan-table}
 use Rattle.same.proofs.Known.{limits}
 
@@ -109,106 +109,93 @@ module _ {cells : List ℕ} {w h nodes : ℕ} {rows table middle lines most : Li
   }
 
   -- both are laid by the rules
-  pub laid : (column : List ℕ) (columns : Columns) (ncols : ℕ) (hs : Rows) (nrows r : ℕ)
-      → column ≡ filled (columnAt (planOf table [])) 0 nodes (replicate 256 0) → ncols ≡ view (planSeen cells w h) .columns
-      → nrows ≡ view (planSeen cells w h) .rows → r ≡ d (view (planSeen cells w h))
-      → columns ≡ columnsIn column most nodes ncols (r + 4) → hs ≡ rowsIn table lines nodes nrows
-      → Laid (planSeen cells w h) column columns ncols hs nrows
-  laid column columns ncols hs nrows r f n m e a b = record {
-    placed = λ k l. column-of column f k (omega (arith, v .gathered .counted));
-    columns-are = a ∙ rw (n, e) (columns-ruled (planSeen cells w h) nodes (v .gathered .counted) column most (column-of column f) longest-of);
-    count-is = n;
-    rows-are = b ∙ rw m (rows-ruled (planSeen cells w h) nodes (v .gathered .counted) table lines depth-of lines-of);
-    row-count-is = m;
-  }
+  pub columns-laid : (column : List ℕ) (ncols r : ℕ) (xs ws cx : List ℕ) → column ≡ filled (columnAt (planOf table [])) 0 nodes (replicate 256 0)
+      → ncols ≡ view (planSeen cells w h) .columns → r ≡ d (view (planSeen cells w h))
+      → (xs ≡ filled (offsetIn column most nodes (r + 4)) 0 ncols (replicate 256 0))
+      × ((ws ≡ filled (widthIn column most nodes) 0 256 (replicate 256 6)) × (cx ≡ filled (centreIn column most nodes (r + 4)) 0 ncols (replicate 256 0)))
+      → RuledColumns (view (planSeen cells w h)) ncols xs ws cx
+  columns-laid column ncols r xs ws cx f n e a =
+      columns-ruled (planSeen cells w h) nodes (v .gathered .counted) column most (column-of column f) longest-of ncols (r + 4) xs ws cx
+      n (ap (λ (x : ℕ). x + 4) e) (a .0) (a .1 .0) (a .1 .1)
 
-  module _ {column : List ℕ} {columns : Columns} {ncols : ℕ} {hs : Rows} {nrows : ℕ} (l : Laid (planSeen cells w h) column columns ncols hs nrows) where
-    pub laid-at : (k : ℕ) → k < nodes → getD column k 0 ≡ columnAt (planSeen cells w h) k
-    laid-at k i = l .placed k (omega (arith, v .gathered .counted))
+  pub rows-laid : (hs : Rows) (nrows : ℕ) → nrows ≡ view (planSeen cells w h) .rows → hs ≡ rowsIn table lines nodes nrows → hs ≡ ruledRows (view (planSeen cells w h))
+  rows-laid hs nrows m b = b ∙ rw m (rows-ruled (planSeen cells w h) nodes (v .gathered .counted) table lines depth-of lines-of)
 
-    pub columns-fit : (0 < ncols) × (ncols ≤ 256)
+  pub rows-fit : (nrows : ℕ) → nrows ≡ view (planSeen cells w h) .rows → (0 < nrows) × (nrows ≤ 32)
+  rows-fit nrows m =
+      let p = planSeen cells w h in
+      (omega (arith, rows-some p, view-rows p), omega (arith, rows-le p (limits v)))
+
+  module _ {ncols nrows : ℕ} {xs ws cx : List ℕ} {hs : Rows} (k : RuledColumns (view (planSeen cells w h)) ncols xs ws cx)
+      (l : hs ≡ ruledRows (view (planSeen cells w h))) (m : nrows ≡ view (planSeen cells w h) .rows) where
+    columns-fit : (0 < ncols) × (ncols ≤ 256)
     columns-fit =
         let p = planSeen cells w h in (
-          omega (arith, l .count-is, column-below p 0 (omega (arith, v .some, v .gathered .counted)), view-columns p),
-          omega (arith, l .count-is, columns-le p (limits v)),
+          omega (arith, k .counted, column-below p 0 (omega (arith, v .some, v .gathered .counted)), view-columns p),
+          omega (arith, k .counted, columns-le p (limits v)),
         )
 
-    pub rows-fit : (0 < nrows) × (nrows ≤ 32)
-    rows-fit =
-        let p = planSeen cells w h in
-        (omega (arith, l .row-count-is, rows-some p, view-rows p), omega (arith, l .row-count-is, rows-le p (limits v)))
-
     -- the canvas
-    pub width-is : sumAt (columns .offset) (columns .width) (ncols - 1) ≡ canvasWidth length (view (planSeen cells w h)) + 1
+    width-is : sumAt xs ws (ncols - 1) ≡ canvasWidth length (view (planSeen cells w h)) + 1
     width-is =
         let p = planSeen cells w h in
-        rw (l .count-is) (columns-end (view p) columns (l .columns-are) (columns-le p (limits v)) (omega (arith, columns-fit, l .count-is)))
+        rw (k .counted) (columns-end (view p) k (columns-le p (limits v)) (omega (arith, columns-fit, k .counted)))
 
-    pub height-is : sumAt (hs .offset) (hs .height) (nrows - 1) ≡ canvasHeight (view (planSeen cells w h))
+    height-is : sumAt (hs .offset) (hs .height) (nrows - 1) ≡ canvasHeight (view (planSeen cells w h))
     height-is =
         let p = planSeen cells w h in
-        rw (l .row-count-is) (rows-end (view p) hs (l .rows-are) (rows-le p (limits v)) (omega (arith, rows-fit, l .row-count-is)))
+        rw m (rows-end (view p) hs l (rows-le p (limits v)) (omega (arith, rows-fit nrows m)))
 
-    pub sizes-ask : ((0 < ncols) × (ncols ≤ 256) × (0 < getD (columns .width) (ncols - 1) 0))
-        × (sumAt (columns .offset) (columns .width) (ncols - 1) < 2 ^ 32)
-        × ((0 < nrows) × (nrows ≤ 32) × (sumAt (hs .offset) (hs .height) (nrows - 1) < 2 ^ 32))
+    pub sizes-ask : ((0 < ncols) × (ncols ≤ 256) × (0 < getD ws (ncols - 1) 0))
+        × ((sumAt xs ws (ncols - 1) < 2 ^ 32)
+        × ((0 < nrows) × (nrows ≤ 32) × (sumAt (hs .offset) (hs .height) (nrows - 1) < 2 ^ 32)))
     sizes-ask =
         let p = planSeen cells w h in
         let few = columns-le p (limits v) in (
           (
             columns-fit .0,
             columns-fit .1,
-            omega (arith, columns-fit, column-width-at (view p) columns (l .columns-are) few (ncols - 1) (omega (arith, columns-fit)), width-ge p (ncols - 1)),
+            omega (arith, columns-fit, column-width-at (view p) k few (ncols - 1) (omega (arith, columns-fit)), width-ge p (ncols - 1)),
           ),
-          omega (arith, width-is, canvas-width-le p (limits v)),
-          (rows-fit .0, rows-fit .1, omega (arith, height-is, canvas-height-le p (limits v))),
+          (
+            omega (arith, width-is, canvas-width-le p (limits v)),
+            (rows-fit nrows m .0, rows-fit nrows m .1, omega (arith, height-is, canvas-height-le p (limits v))),
+          ),
         )
 
-    pub sizes-are : (r : Bool) → r ≡ (eqb w (sumAt (columns .offset) (columns .width) (ncols - 1) - 1) && eqb h (sumAt (hs .offset) (hs .height) (nrows - 1)))
+    pub sizes-are : (r : Bool) → r ≡ (eqb w (sumAt xs ws (ncols - 1) - 1) && eqb h (sumAt (hs .offset) (hs .height) (nrows - 1)))
         → r ≡ (eqb w (canvasWidth length (view (planSeen cells w h))) && eqb h (canvasHeight (view (planSeen cells w h))))
     sizes-are r e =
-        let z : sumAt (columns .offset) (columns .width) (ncols - 1) - 1 ≡ canvasWidth length (view (planSeen cells w h)) = omega (arith, width-is) in
+        let z : sumAt xs ws (ncols - 1) - 1 ≡ canvasWidth length (view (planSeen cells w h)) = omega (arith, width-is) in
         e ∙ ap (λ (x : ℕ). eqb w x && eqb h (sumAt (hs .offset) (hs .height) (nrows - 1))) z
         ∙ ap (λ (y : ℕ). eqb w (canvasWidth length (view (planSeen cells w h))) && eqb h y) height-is
 
     -- the centres
-    pub centers-ask : (j : ℕ) → j < ncols → sumAt (columns .offset) (columns .center) j < 2 ^ 32
-    centers-ask j b =
-        let p = planSeen cells w h in
-        omega (
-          arith,
-          cx-at (view p) columns (l .columns-are) (columns-le p (limits v)) j (omega (arith, l .count-is)),
-          cx-le p (limits v) j (omega (arith, columns-fit)),
-        )
-
     pub row-centers-ask : (i : ℕ) → i < nrows → sumAt (hs .offset) (hs .center) i < 2 ^ 32
     row-centers-ask i b =
         let p = planSeen cells w h in
         omega (
           arith,
-          cy-at (view p) hs (l .rows-are) (rows-le p (limits v)) i (omega (arith, l .row-count-is)),
-          cy-le p (limits v) i (omega (arith, rows-fit)),
+          cy-at (view p) hs l (rows-le p (limits v)) i (omega (arith, m)),
+          cy-le p (limits v) i (omega (arith, rows-fit nrows m)),
         )
 
-    pub numbers : (cx cy : List ℕ) → cx ≡ filled (sumAt (columns .offset) (columns .center)) 0 ncols (replicate 256 0)
-        → cy ≡ filled (sumAt (hs .offset) (hs .center)) 0 nrows (replicate 32 0)
+    pub numbers : (cy : List ℕ) → cy ≡ filled (sumAt (hs .offset) (hs .center)) 0 nrows (replicate 32 0)
         → w ≡ canvasWidth length (view (planSeen cells w h)) → h ≡ canvasHeight (view (planSeen cells w h))
-        → Numbers (view (planSeen cells w h)) w h ncols nrows cx (columns .offset) cy (hs .offset)
-    numbers cx cy a b wide high =
+        → Numbers (view (planSeen cells w h)) w h ncols nrows cx xs cy (hs .offset)
+    numbers cy b wide high =
         let p = planSeen cells w h in
         let few = columns-le p (limits v) in
         let short = rows-le p (limits v) in
         record {
           wide = wide;
           high = high;
-          columns-are = l .count-is;
-          rows-are = l .row-count-is;
-          cx-is = λ j i.
-              at-whole (sumAt (columns .offset) (columns .center)) ncols j cx (replicate 256 0) a (columns-fit .1) (omega (arith, l .count-is))
-              ∙ cx-at (view p) columns (l .columns-are) few j i;
-          x-is = column-offset-at (view p) columns (l .columns-are) few;
+          columns-are = k .counted;
+          rows-are = m;
+          cx-is = cx-at (view p) k few;
+          x-is = column-offset-at (view p) k few;
           cy-is = λ j i.
-              at-whole (sumAt (hs .offset) (hs .center)) nrows j cy (replicate 32 0) b (rows-fit .1) (omega (arith, l .row-count-is))
-              ∙ cy-at (view p) hs (l .rows-are) short j i;
-          y-is = row-offset-at (view p) hs (l .rows-are) short;
+              at-whole (sumAt (hs .offset) (hs .center)) nrows j cy (replicate 32 0) b (rows-fit nrows m .1) (omega (arith, m))
+              ∙ cy-at (view p) hs l short j i;
+          y-is = row-offset-at (view p) hs l short;
         }

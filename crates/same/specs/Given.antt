@@ -5,18 +5,14 @@ use mathlib.Core.Bool.{Bool, true, false}
 use Prim.Native.Nat.{ℕ, _*_, _≤_, _<_}
 use lib.ListN.{length, getD, take}
 use Rattle.rules.specs.Base.{first}
-use Rattle.rules.specs.Plan.{Node}
 use Rattle.rules.specs.Numbers.{badDepth}
-use Rattle.rules.specs.Levels.{columnAt, view}
+use Rattle.rules.specs.Levels.{view}
 use Rattle.rules.specs.Drawing.{boxes}
 use Rattle.rules.proofs.Candidate.{outside}
 use Rattle.marks.specs.Numbers.{Pictured}
 use Rattle.marks.proofs.Text.{Held}
 use Rattle.sight.specs.Seen.{seen}
 use Rattle.sight.specs.Plan.{planSeen}
-use Rattle.tree_view.specs.declared.widths.Columns.{Columns}
-use Rattle.tree_view.specs.declared.heights.Rows.{Rows}
-use Rattle.tree_view.specs.Ruled.{ruledColumns, ruledRows}
 use Rattle.gather.specs.Gathered.{Gathered}
 
 -- the picture is the drawing of the plan that is seen in it
@@ -39,11 +35,3 @@ pub record Given (cells : List ℕ) (w h : ℕ) (rows table : List ℕ) (nodes :
   pub whole : List ℕ
   pub gathered : Gathered cells w h nodes bytes whole middle lines most
   pub table-is : table ≡ take (3 * nodes) whole
-
--- the nodes' columns, and columns and rows, as the rules lay them for a plan
-pub record Laid (p : List Node) (column : List ℕ) (columns : Columns) (ncols : ℕ) (rows : Rows) (nrows : ℕ) : Type 0 where
-  pub placed : (k : ℕ) → k < length p → getD column k 0 ≡ columnAt p k
-  pub columns-are : columns ≡ ruledColumns (view p)
-  pub count-is : ncols ≡ view p .columns
-  pub rows-are : rows ≡ ruledRows (view p)
-  pub row-count-is : nrows ≡ view p .rows

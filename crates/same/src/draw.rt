@@ -1,29 +1,36 @@
 // The canvas compared with the drawing of the plan that was gathered.
 ghost use mathlib.Core.Path.{_≡_};
 ghost use mathlib.Core.Bool.{false, _&&_};
-ghost use Prim.Native.Nat.{_*_, _-_, _≤_, _<_, _^_};
+ghost use Prim.Native.Nat.{ℕ, _*_, _-_, _≤_, _<_, _^_};
 ghost use lib.Dec.{eqb};
 ghost use lib.ListN.{length, getD};
-ghost use Rattle.rules.specs.Levels.{view};
-ghost use Rattle.rules.specs.Measures as rule;
+ghost use Rattle.rules.specs.Levels.{columnAt, view};
+ghost use Rattle.marks.specs.Numbers.{Numbers};
 ghost use Rattle.sight.specs.Seen.{seen};
 ghost use Rattle.sight.specs.Plan.{planSeen};
 ghost use Rattle.tree_view.specs.Sizes.{sumAt};
 ghost use Rattle.bands.specs.Ready.{Ready};
-ghost use Rattle.same.specs.Given.{Drawn, Given, Laid, Tells};
+ghost use Rattle.same.specs.Given.{Drawn, Given, Tells};
 use crate::level;
-use tree_view::Columns;
-use tree_view::Rows;
 
 // The canvas has the size of a drawing of these columns and rows.
-fn sized(width: u32, height: u32, columns: Columns, ncols: u32, rows: Rows, nrows: u32) -> bool
-    requires { ⌜ (0 < ncols) × (ncols ≤ 256) × (0 < getD (columns .width) (ncols - 1) 0) ⌝ }
-    requires { ⌜ sumAt (columns .offset) (columns .width) (ncols - 1) < 2 ^ 32 ⌝ }
-    requires { ⌜ (0 < nrows) × (nrows ≤ 32) × (sumAt (rows .offset) (rows .height) (nrows - 1) < 2 ^ 32) ⌝ }
-    ensures { λ r. ⌜ r ≡ (eqb width (sumAt (columns .offset) (columns .width) (ncols - 1) - 1) && eqb height (sumAt (rows .offset) (rows .height) (nrows - 1))) ⌝ }
+fn sized<'a, 'b>(
+    width: u32,
+    height: u32,
+    xs: &'a [u32; 256],
+    ws: &'a [u32; 256],
+    ncols: u32,
+    ys: &'b [u32; 32],
+    hs: &'b [u32; 32],
+    nrows: u32,
+) -> bool
+    requires { ⌜ (0 < ncols) × (ncols ≤ 256) × (0 < getD (now ws) (ncols - 1) 0) ⌝ }
+    requires { ⌜ sumAt (now xs) (now ws) (ncols - 1) < 2 ^ 32 ⌝ }
+    requires { ⌜ (0 < nrows) × (nrows ≤ 32) × (sumAt (now ys) (now hs) (nrows - 1) < 2 ^ 32) ⌝ }
+    ensures { λ r. ⌜ r ≡ (eqb width (sumAt (now (xs .entry)) (now (ws .entry)) (ncols - 1) - 1) && eqb height (sumAt (now (ys .entry)) (now (hs .entry)) (nrows - 1))) ⌝ }
 {
-    if width == tree_view::canvas_width(&columns.offset, &columns.width, ncols) {
-        return height == tree_view::canvas_height(&rows.offset, &rows.height, nrows);
+    if width == tree_view::canvas_width(xs, ws, ncols) {
+        return height == tree_view::canvas_height(ys, hs, nrows);
     }
     false
 }
@@ -70,8 +77,8 @@ fn compared(
     false
 }
 
-// A canvas of the plan's size is the plan's drawing: its columns and rows are laid.
-fn matches(
+// A canvas of the plan's size, whose columns and rows are placed, is the plan's drawing.
+fn matches<'a>(
     cells: &[u32],
     width: u32,
     height: u32,
@@ -82,24 +89,20 @@ fn matches(
     middle: &[u32; 256],
     lines: &[u32; 256],
     longest: &[u32; 256],
-    columns: Columns,
+    cx: &'a [u32; 256],
+    xs: &'a [u32; 256],
     ncols: u32,
-    rows: Rows,
+    cy: &[u32; 32],
+    ys: &[u32; 32],
     nrows: u32,
 ) -> bool
     requires { ⌜ Given (now cells) width height (now centers) (now table) nodes (now middle) (now lines) (now longest) ⌝ }
-    requires { ⌜ Laid (planSeen (now cells) width height) (now column) columns ncols rows nrows ⌝ }
-    requires { ⌜ (width ≡ rule.canvasWidth length (view (planSeen (now cells) width height))) × (height ≡ rule.canvasHeight (view (planSeen (now cells) width height))) ⌝ }
+    requires { ⌜ ((k : ℕ) → k < nodes → getD (now column) k 0 ≡ columnAt (planSeen (now cells) width height) k) ⌝ }
+    requires { ⌜ Numbers (view (planSeen (now cells) width height)) width height ncols nrows (now cx) (now xs) (now cy) (now ys) ⌝ }
     ensures { λ r. ⌜ Tells r (Drawn (now (cells .entry)) width height) ⌝ }
 {
-    let mut cx = [0u32; 256];
-    let mut cy = [0u32; 32];
-    tree_view::column_centers(&columns.offset, &columns.center, ncols, &mut cx);
-    tree_view::row_centers(&rows.offset, &rows.center, nrows, &mut cy);
-    let xs = columns.offset;
-    let ys = rows.offset;
-    if level::centered(nodes, column, &cx, middle) {
-        if level::level(nrows, centers, &cy) {
+    if level::centered(nodes, column, cx, middle) {
+        if level::level(nrows, centers, cy) {
             return compared(
                 cells,
                 width,
@@ -109,11 +112,11 @@ fn matches(
                 column,
                 lines,
                 longest,
-                &cx,
-                &xs,
+                cx,
+                xs,
                 ncols,
-                &cy,
-                &ys,
+                cy,
+                ys,
                 nrows,
             );
         }
@@ -143,7 +146,18 @@ pub fn same(
     let d = tree_view::index_digits(nrows);
     let columns = tree_view::tree_columns(nodes, &column, longest, ncols, d + 4);
     let rows = tree_view::tree_rows(table, nodes, lines, nrows);
-    if sized(width, height, columns, ncols, rows, nrows) {
+    if sized(
+        width,
+        height,
+        &columns.offset,
+        &columns.width,
+        ncols,
+        &rows.offset,
+        &rows.height,
+        nrows,
+    ) {
+        let mut cy = [0u32; 32];
+        tree_view::row_centers(&rows.offset, &rows.center, nrows, &mut cy);
         return matches(
             cells,
             width,
@@ -155,9 +169,11 @@ pub fn same(
             middle,
             lines,
             longest,
-            columns,
+            &columns.center,
+            &columns.offset,
             ncols,
-            rows,
+            &cy,
+            &rows.offset,
             nrows,
         );
     }

@@ -9,7 +9,7 @@ use Rattle.rules.specs.Measures.{rowOffset, cx, cy, canvasWidth, canvasHeight}
 use Rattle.levels.specs.Filled.{filled}
 use Rattle.tree_view.specs.Measured.{linesAt, longestAt}
 use Rattle.tree_view.specs.Sizes.{sumAt}
-use Rattle.tree_view.specs.Ruled.{ruledColumns, ruledRows}
+use Rattle.tree_view.specs.Ruled.{ruledRows}
 use Rattle.canvas.specs.declared.draw.Size.{Size}
 use Rattle.connections.specs.declared.connect.Gap.{Gap}
 use Rattle.tree_format.specs.Placed.{Placed}
@@ -22,7 +22,7 @@ pub record Measured (T B column lines longest : List ℕ) : Type 0 where
 
 -- the centres of columns and rows, where rows begin, and how many there are
 pub record Laid (v : View) (centresX : List ℕ) (count : ℕ) (centresY offset : List ℕ) (rowCount : ℕ) : Type 0 where
-  pub columns-are : centresX ≡ filled (sumAt (ruledColumns v .offset) (ruledColumns v .center)) 0 count (replicate 256 0)
+  pub columns-are : centresX ≡ filled (cx length v) 0 count (replicate 256 0)
   pub count-is : count ≡ v .columns
   pub rows-are : centresY ≡ filled (sumAt (ruledRows v .offset) (ruledRows v .center)) 0 rowCount (replicate 32 0)
   pub offset-is : offset ≡ ruledRows v .offset

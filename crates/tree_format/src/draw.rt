@@ -124,9 +124,7 @@ fn measured(
         width: tree_view::canvas_width(&columns.offset, &columns.width, ncols),
         height: tree_view::canvas_height(&rows.offset, &rows.height, nrows),
     };
-    let mut cx = [0u32; 256];
     let mut cy = [0u32; 32];
-    tree_view::column_centers(&columns.offset, &columns.center, ncols, &mut cx);
     tree_view::row_centers(&rows.offset, &rows.center, nrows, &mut cy);
     sized(
         table,
@@ -135,7 +133,7 @@ fn measured(
         column,
         lines,
         longest,
-        &cx,
+        &columns.center,
         ncols,
         &cy,
         &rows.offset,

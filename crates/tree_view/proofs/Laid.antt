@@ -1,5 +1,4 @@
--- Columns and rows as a loop lays them: none, and one place more, for one struct as for the other; and what stands at a place.
--- Each is three fills, so each law is that of a fill, three times.
+-- Rows as a loop lays them: none, and one place more; and what stands at a place. Rows are three fills, so each law is that of a fill.
 use mathlib.Core.Path.{_≡_, refl, ap, _∙_}
 use mathlib.Core.List.{List}
 use Prim.Native.Nat.{ℕ, _+_, _≤_, _<_}
@@ -7,9 +6,8 @@ use native.Mathlib.Omega.{arith}
 use lib.ListN.{length, getD, set, replicate}
 use Rattle.levels.specs.Filled.{filled}
 use Rattle.levels.proofs.Filled.{filled-at}
-use Rattle.tree_view.specs.declared.widths.Columns.{Columns}
 use Rattle.tree_view.specs.declared.heights.Rows.{Rows}
-use Rattle.tree_view.specs.Sizes.{columnsBy, rowsBy}
+use Rattle.tree_view.specs.Sizes.{rowsBy}
 use Rattle.tree_view.proofs.Sizes.{fill-more}
 
 pub filled-none : (f : ℕ → ℕ) (old : List ℕ) → old ≡ filled f 0 0 old
@@ -20,29 +18,16 @@ filled-none f old = refl
 pub at-whole : (f : ℕ → ℕ) (n k : ℕ) (l old : List ℕ) → l ≡ filled f 0 n old → n ≤ length old → k < n → getD l k 0 ≡ f k
 at-whole f n k l old e b h = ap (λ l. getD l k 0) e ∙ filled-at f 0 n old k (omega arith) (omega arith) (omega arith)
 
-pub columns-equal : {o o′ w w′ z z′ : List ℕ} → o ≡ o′ → w ≡ w′ → z ≡ z′
-    → _≡_ {A = Columns} (record { offset = o; width = w; center = z }) (record { offset = o′; width = w′; center = z′ })
-columns-equal p q r = cc
-
 pub rows-equal : {o o′ h h′ z z′ : List ℕ} → o ≡ o′ → h ≡ h′ → z ≡ z′
     → _≡_ {A = Rows} (record { offset = o; height = h; center = z }) (record { offset = o′; height = h′; center = z′ })
 rows-equal p q r = cc
 
 module _ (offset size centre : ℕ → ℕ) where
-  pub columns-more : (j x h : ℕ) (c : Columns) → c ≡ columnsBy offset size centre j → x ≡ offset j → h ≡ centre j
-      → _≡_ {A = Columns} (record { offset = set (c .offset) j x; width = c .width; center = set (c .center) j h }) (columnsBy offset size centre (j + 1))
-  columns-more j x h c e p q =
-      columns-equal (fill-more offset j x (c .offset) _ (ap (λ (c : Columns). c .offset) e) p) (ap (λ (c : Columns). c .width) e)
-      (fill-more centre j h (c .center) _ (ap (λ (c : Columns). c .center) e) q)
-
   pub rows-more : (i y h : ℕ) (r : Rows) → r ≡ rowsBy offset size centre i → y ≡ offset i → h ≡ centre i
       → _≡_ {A = Rows} (record { offset = set (r .offset) i y; height = r .height; center = set (r .center) i h }) (rowsBy offset size centre (i + 1))
   rows-more i y h r e p q =
       rows-equal (fill-more offset i y (r .offset) _ (ap (λ (r : Rows). r .offset) e) p) (ap (λ (r : Rows). r .height) e)
       (fill-more centre i h (r .center) _ (ap (λ (r : Rows). r .center) e) q)
-
-  pub width-at : (n j : ℕ) (c : Columns) → c ≡ columnsBy offset size centre n → j < 256 → getD (c .width) j 0 ≡ size j
-  width-at n j c e h = at-whole size 256 j (c .width) (replicate 256 6) (ap (λ (c : Columns). c .width) e) (omega arith) h
 
   pub height-at : (n i : ℕ) (r : Rows) → r ≡ rowsBy offset size centre n → i < 32 → getD (r .height) i 0 ≡ size i
   height-at n i r e h = at-whole size 32 i (r .height) (replicate 32 2) (ap (λ (r : Rows). r .height) e) (omega arith) h

@@ -5,7 +5,7 @@ use mathlib.Core.List.{List}
 use Prim.Native.Nat.{ℕ, suc, zero, _+_, _*_, _-_, _/_, _≤_, _<_}
 use native.Mathlib.Omega.{arith}
 use lib.ListN.{length, getD, replicate}
-use Rattle.rules.specs.Base.{halfUp, total}
+use Rattle.rules.specs.Base.{total}
 use Rattle.rules.specs.Plan.{Node, depthAt, depthIn}
 use Rattle.rules.specs.Levels.{View, columnAt, rowsOf, columnsOf, view}
 use Rattle.rules.specs.Measures.{d, height, rowOffset, rowCentre, canvasHeight, cy, width, columnOffset, columnCentre, canvasWidth, cx, area}
@@ -13,13 +13,12 @@ use Rattle.rules.proofs.Columns.{offset-total, row-offset-total}
 use Rattle.rules.proofs.Bounds.{column-below}
 use Rattle.levels.specs.Filled.{filled}
 use Rattle.levels.proofs.Filled.{filled-at, filled-same}
-use Rattle.tree_view.specs.declared.widths.Columns.{Columns}
 use Rattle.tree_view.specs.declared.heights.Rows.{Rows}
 use Rattle.tree_view.specs.Measured.{linesAt, longestAt}
-use Rattle.tree_view.specs.Sizes.{after, widthIn, heightIn, sumAt, middleAt, columnsIn, rowsIn}
-use Rattle.tree_view.specs.Ruled.{ruledColumns, ruledRows}
+use Rattle.tree_view.specs.Sizes.{after, widthIn, offsetIn, centreIn, heightIn, sumAt, middleAt, rowsIn}
+use Rattle.tree_view.specs.Ruled.{RuledColumns, ruledRows}
 use Rattle.tree_view.proofs.Sizes.{most-same, after-same}
-use Rattle.tree_view.proofs.Laid.{columns-equal, rows-equal, width-at, height-at}
+use Rattle.tree_view.proofs.Laid.{at-whole, rows-equal, height-at}
 use Rattle.tree_view.proofs.Nodes.{width-most, height-most}
 
 -- offsets as sums of sizes
@@ -53,15 +52,24 @@ module _ (p : List Node) (n : ℕ) (e : n ≡ length p) where
     pub width-in : (j : ℕ) → widthIn column longest n j ≡ width length (view p) j
     width-in j = most-same _ (columnAt p) _ (longestAt p) 6 n placed sized j ∙ rw e (sym (width-most p j))
 
-    pub columns-ruled : columnsIn column longest n (view p .columns) (d (view p) + 4) ≡ ruledColumns (view p)
-    unfolding columnCentre
-    columns-ruled =
-        let W = widthIn column longest n in
-        columns-equal
-        (filled-same (after W (d (view p) + 4) 0) (columnOffset length (view p)) 0 (view p .columns) (replicate 256 0)
-        (λ j a b. after-same W (width length (view p)) (d (view p) + 4) 0 width-in j ∙ sym (column-after (view p) j)))
-        (filled-same W (width length (view p)) 0 256 (replicate 256 6) (λ j a b. width-in j))
-        (filled-same (λ j. halfUp (W j)) (columnCentre length (view p)) 0 (view p .columns) (replicate 256 0) (λ j a b. ap halfUp (width-in j)))
+    offset-in : (j : ℕ) → offsetIn column longest n (d (view p) + 4) j ≡ columnOffset length (view p) j
+    offset-in j = after-same (widthIn column longest n) (width length (view p)) (d (view p) + 4) 0 width-in j ∙ sym (column-after (view p) j)
+
+    centre-in : (j : ℕ) → centreIn column longest n (d (view p) + 4) j ≡ cx length (view p) j
+    unfolding cx columnCentre
+    centre-in j = rw (offset-in j, width-in j)
+
+    pub columns-ruled : (m start : ℕ) (xs ws cs : List ℕ) → m ≡ view p .columns → start ≡ d (view p) + 4
+        → xs ≡ filled (offsetIn column longest n start) 0 m (replicate 256 0)
+        → ws ≡ filled (widthIn column longest n) 0 256 (replicate 256 6)
+        → cs ≡ filled (centreIn column longest n start) 0 m (replicate 256 0)
+        → RuledColumns (view p) m xs ws cs
+    columns-ruled m start xs ws cs c s a b e = record {
+      counted = c;
+      offsets = a ∙ rw s (filled-same (offsetIn column longest n (d (view p) + 4)) (columnOffset length (view p)) 0 m (replicate 256 0) (λ j h l. offset-in j));
+      widths = b ∙ filled-same (widthIn column longest n) (width length (view p)) 0 256 (replicate 256 6) (λ j h l. width-in j);
+      centres = e ∙ rw s (filled-same (centreIn column longest n (d (view p) + 4)) (cx length (view p)) 0 m (replicate 256 0) (λ j h l. centre-in j));
+    }
 
   module _ (table lines : List ℕ) (placed : (k : ℕ) → k < n → depthIn table k ≡ depthAt p k)
       (sized : (k : ℕ) → k < n → getD lines k 0 ≡ linesAt p k) where
@@ -87,34 +95,23 @@ module _ (p : List Node) (n : ℕ) (e : n ≡ length p) where
       (λ k a b. ap (λ j. getD centres j 0) (placed k (omega arith))
       ∙ centred (columnAt p k) (omega (arith, column-below p k (omega arith), view-columns p)))
 
-module _ (v : View) (c : Columns) (e : c ≡ ruledColumns v) (few : v .columns ≤ 256) where
-  pub column-offset-at : (j : ℕ) → j < v .columns → getD (c .offset) j 0 ≡ columnOffset length v j
-  column-offset-at j h =
-      ap (λ (c : Columns). getD (c .offset) j 0) e
-      ∙ filled-at (columnOffset length v) 0 (v .columns) (replicate 256 0) j (omega arith) (omega arith) (omega arith)
+module _ (v : View) {n : ℕ} {xs ws cs : List ℕ} (r : RuledColumns v n xs ws cs) (few : v .columns ≤ 256) where
+  pub column-offset-at : (j : ℕ) → j < v .columns → getD xs j 0 ≡ columnOffset length v j
+  column-offset-at j h = at-whole (columnOffset length v) n j xs (replicate 256 0) (r .offsets) (omega (arith, r .counted)) (omega (arith, r .counted))
 
-  pub column-width-at : (j : ℕ) → j < 256 → getD (c .width) j 0 ≡ width length v j
-  column-width-at j h = width-at (columnOffset length v) (width length v) (columnCentre length v) (v .columns) j c e h
+  pub column-width-at : (j : ℕ) → j < 256 → getD ws j 0 ≡ width length v j
+  column-width-at j h = at-whole (width length v) 256 j ws (replicate 256 6) (r .widths) (omega arith) h
 
-  pub column-centre-at : (j : ℕ) → j < v .columns → getD (c .center) j 0 ≡ columnCentre length v j
-  column-centre-at j h =
-      ap (λ (c : Columns). getD (c .center) j 0) e
-      ∙ filled-at (columnCentre length v) 0 (v .columns) (replicate 256 0) j (omega arith) (omega arith) (omega arith)
+  pub cx-at : (j : ℕ) → j < v .columns → getD cs j 0 ≡ cx length v j
+  cx-at j h = at-whole (cx length v) n j cs (replicate 256 0) (r .centres) (omega (arith, r .counted)) (omega (arith, r .counted))
 
   -- where the last column ends
-  pub columns-end : 0 < v .columns → sumAt (c .offset) (c .width) (v .columns - 1) ≡ canvasWidth length v + 1
+  pub columns-end : 0 < v .columns → sumAt xs ws (v .columns - 1) ≡ canvasWidth length v + 1
   unfolding canvasWidth total
   columns-end some =
       let j = v .columns - 1 in
       let q : suc j ≡ v .columns = omega arith in
       omega (arith, column-offset-at j (omega arith), column-width-at j (omega arith), offset-total length v j, ap (total (width length v)) q)
-
-  pub cx-at : (j : ℕ) → j < v .columns → sumAt (c .offset) (c .center) j ≡ cx length v j
-  unfolding cx
-  cx-at j h = omega (arith, column-offset-at j h, column-centre-at j h)
-
-  pub cx-ruled : (old : List ℕ) → filled (sumAt (c .offset) (c .center)) 0 (v .columns) old ≡ filled (cx length v) 0 (v .columns) old
-  cx-ruled old = filled-same (sumAt (c .offset) (c .center)) (cx length v) 0 (v .columns) old (λ j a b. cx-at j (omega arith))
 
 module _ (v : View) (r : Rows) (e : r ≡ ruledRows v) (few : v .rows ≤ 32) where
   pub row-offset-at : (i : ℕ) → i < v .rows → getD (r .offset) i 0 ≡ rowOffset v i

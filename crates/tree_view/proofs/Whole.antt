@@ -4,7 +4,7 @@ use mathlib.Core.Path.{_≡_, sym, _∙_}
 use mathlib.Core.List.{List, []}
 use Prim.Native.Nat.{ℕ, _+_, _-_, _^_, _≤_, _<_}
 use native.Mathlib.Omega.{arith}
-use lib.ListN.{length, getD}
+use lib.ListN.{length, getD, replicate}
 use Rattle.rules.specs.Lines.{digits}
 use Rattle.rules.specs.Plan.{count, planOf}
 use Rattle.rules.specs.Levels.{columnAt, rowsOf, columnsOf, view}
@@ -14,14 +14,13 @@ use Rattle.rules.proofs.Bounds.{column-below, rows-some}
 use Rattle.levels.specs.Accepted.{Accepted}
 use Rattle.levels.specs.Filled.{filled}
 use Rattle.levels.proofs.Plans.{columns-bytes, rows-bytes}
-use Rattle.tree_view.specs.declared.widths.Columns.{Columns}
 use Rattle.tree_view.specs.declared.heights.Rows.{Rows}
 use Rattle.tree_view.specs.Measured.{linesAt, longestAt}
-use Rattle.tree_view.specs.Sizes.{Wide, High, columnsIn, rowsIn, sumAt, middleAt}
-use Rattle.tree_view.specs.Ruled.{ruledColumns, ruledRows}
+use Rattle.tree_view.specs.Sizes.{Wide, High, widthIn, offsetIn, centreIn, rowsIn, sumAt, middleAt}
+use Rattle.tree_view.specs.Ruled.{RuledColumns, ruledRows}
 use Rattle.tree_view.proofs.Laid.{at-whole}
-use Rattle.tree_view.proofs.Ruled.{view-columns, view-rows, columns-ruled, rows-ruled, middles-ruled, column-width-at, columns-end, cx-at, cx-ruled, rows-end, cy-at, cy-ruled}
-use Rattle.tree_view.proofs.Limits.{width-ge, columns-le, rows-le, cx-le, cy-le, canvas-width-le, canvas-height-le}
+use Rattle.tree_view.proofs.Ruled.{view-columns, view-rows, columns-ruled, rows-ruled, middles-ruled, column-width-at, columns-end, rows-end, cy-at, cy-ruled}
+use Rattle.tree_view.proofs.Limits.{width-ge, columns-le, rows-le, cy-le, canvas-width-le, canvas-height-le}
 use Rattle.tree_view.proofs.Table.{small, column-at, size-at, wide, high}
 
 module _ {T B : List ℕ} (a : Accepted T B) (nodes : ℕ) (all : nodes ≡ count T) where
@@ -53,10 +52,12 @@ module _ {T B : List ℕ} (a : Accepted T B) (nodes : ℕ) (all : nodes ≡ coun
     pub columns-ask : Wide column longest nodes
     columns-ask = rw all (wide a column longest (λ k h. column-of k (omega arith)) (λ k h. longest-of k (omega arith)))
 
-    pub columns-answer : (n start : ℕ) → n ≡ view (planOf T B) .columns → start ≡ d (view (planOf T B)) + 4
-        → columnsIn column longest nodes n start ≡ ruledColumns (view (planOf T B))
-    columns-answer n start e q =
-        rw (e, q) (columns-ruled (planOf T B) nodes (all ∙ sym (length-plan T B)) column longest column-of longest-of)
+    pub columns-answer : (n start : ℕ) (xs ws cs : List ℕ) → n ≡ view (planOf T B) .columns → start ≡ d (view (planOf T B)) + 4
+        → xs ≡ filled (offsetIn column longest nodes start) 0 n (replicate 256 0)
+        → ws ≡ filled (widthIn column longest nodes) 0 256 (replicate 256 6)
+        → cs ≡ filled (centreIn column longest nodes start) 0 n (replicate 256 0)
+        → RuledColumns (view (planOf T B)) n xs ws cs
+    columns-answer = columns-ruled (planOf T B) nodes (all ∙ sym (length-plan T B)) column longest column-of longest-of
 
   -- of `tree_rows`
   module _ (lines old : List ℕ) (sized : lines ≡ filled (linesAt (planOf T B)) 0 nodes old) (long : length old ≡ 256) where
@@ -71,64 +72,56 @@ module _ {T B : List ℕ} (a : Accepted T B) (nodes : ℕ) (all : nodes ≡ coun
         rw e (rows-ruled (planOf T B) nodes (all ∙ sym (length-plan T B)) T lines (λ k h. sym (depth-plan T B k (omega arith))) lines-of)
 
   -- of what the columns are passed to
-  module _ (c : Columns) (n : ℕ) (ruled : c ≡ ruledColumns (view (planOf T B))) (counted : n ≡ view (planOf T B) .columns) where
-    pub columns-small : n ≤ 256
+  module _ (n : ℕ) (counted : n ≡ view (planOf T B) .columns) where
+    columns-small : n ≤ 256
     columns-small = omega (arith, columns-le (planOf T B) (small a))
 
     -- there is a column where there is a node
-    pub columns-some : 0 < nodes → 0 < n
+    columns-some : 0 < nodes → 0 < n
     columns-some h = omega (arith, column-below (planOf T B) 0 (omega (arith, length-plan T B)), view-columns (planOf T B))
 
-    end-of : 0 < nodes → sumAt (c .offset) (c .width) (n - 1) ≡ canvasWidth length (view (planOf T B)) + 1
-    end-of h = rw counted (columns-end (view (planOf T B)) c ruled (columns-le (planOf T B) (small a)) (omega (arith, columns-some h)))
+  module _ {n : ℕ} {xs ws cs : List ℕ} (r : RuledColumns (view (planOf T B)) n xs ws cs) where
+    end-of : 0 < nodes → sumAt xs ws (n - 1) ≡ canvasWidth length (view (planOf T B)) + 1
+    end-of h =
+        rw (r .counted)
+        (columns-end (view (planOf T B)) r (columns-le (planOf T B) (small a)) (omega (arith, r .counted, columns-some n (r .counted) h)))
 
-    pub width-asks : 0 < nodes → ((0 < n) × (n ≤ 256) × (0 < getD (c .width) (n - 1) 0)) × (sumAt (c .offset) (c .width) (n - 1) < 2 ^ 32)
-    width-asks h = (
-      (
-        columns-some h,
-        columns-small,
-        omega (
-          arith,
-          columns-some h,
-          columns-small,
-          column-width-at (view (planOf T B)) c ruled (columns-le (planOf T B) (small a)) (n - 1) (omega (arith, columns-small, columns-some h)),
-          width-ge (planOf T B) (n - 1),
-        ),
-      ),
-      omega (arith, end-of h, canvas-width-le (planOf T B) (small a)),
-    )
-
-    pub width-answers : (r : ℕ) → 0 < nodes → r ≡ sumAt (c .offset) (c .width) (n - 1) - 1 → r ≡ canvasWidth length (view (planOf T B))
-    width-answers r h e = omega (arith, end-of h)
-
-    pub centers-ask : (j : ℕ) → j < n → sumAt (c .offset) (c .center) j < 2 ^ 32
-    centers-ask j h =
-        omega (
-          arith,
-          cx-at (view (planOf T B)) c ruled (columns-le (planOf T B) (small a)) j (omega arith),
-          columns-small,
-          cx-le (planOf T B) (small a) j (omega (arith, columns-small)),
+    pub width-asks : 0 < nodes → ((0 < n) × (n ≤ 256) × (0 < getD ws (n - 1) 0)) × (sumAt xs ws (n - 1) < 2 ^ 32)
+    width-asks h =
+        let some = columns-some n (r .counted) h in
+        let few = columns-small n (r .counted) in (
+          (
+            some,
+            few,
+            omega (
+              arith,
+              column-width-at (view (planOf T B)) r (columns-le (planOf T B) (small a)) (n - 1) (omega (arith, some, few)),
+              width-ge (planOf T B) (n - 1),
+            ),
+          ),
+          omega (arith, end-of h, canvas-width-le (planOf T B) (small a)),
         )
 
-    -- cx by entries; and the nodes' middles
-    module _ (centres old : List ℕ) (made : centres ≡ filled (sumAt (c .offset) (c .center)) 0 n old) (long : length old ≡ 256) where
-      pub centers-answer : centres ≡ filled (cx length (view (planOf T B))) 0 n old
-      centers-answer = made ∙ rw counted (cx-ruled (view (planOf T B)) c ruled (columns-le (planOf T B) (small a)) old)
+    pub width-answers : (r : ℕ) → 0 < nodes → r ≡ sumAt xs ws (n - 1) - 1 → r ≡ canvasWidth length (view (planOf T B))
+    width-answers r h e = omega (arith, end-of h)
 
-      pub center-at : (j : ℕ) → j < n → getD centres j 0 ≡ cx length (view (planOf T B)) j
-      center-at j h = at-whole (cx length (view (planOf T B))) n j centres old centers-answer (omega (arith, columns-small)) h
+  -- cx by entries; and the nodes' middles
+  module _ (n : ℕ) (counted : n ≡ view (planOf T B) .columns) (centres old : List ℕ)
+      (made : centres ≡ filled (cx length (view (planOf T B))) 0 n old) (long : length old ≡ 256) where
+    pub center-at : (j : ℕ) → j < n → getD centres j 0 ≡ cx length (view (planOf T B)) j
+    center-at j h = at-whole (cx length (view (planOf T B))) n j centres old made (omega (arith, columns-small n counted)) h
 
-      module _ (column : List ℕ) (placed : (k : ℕ) → k < nodes → getD column k 0 ≡ columnAt (planOf T B) k) where
-        pub middles-ask : (k : ℕ) → k < nodes → getD column k 0 < 256
-        middles-ask k h =
-            omega (arith, placed k h, column-below (planOf T B) k (omega (arith, length-plan T B)), view-columns (planOf T B), columns-le (planOf T B) (small a))
+    module _ (column : List ℕ) (placed : (k : ℕ) → k < nodes → getD column k 0 ≡ columnAt (planOf T B) k) where
+      pub middles-ask : (k : ℕ) → k < nodes → getD column k 0 < 256
+      middles-ask k h =
+          omega (arith, placed k h, column-below (planOf T B) k (omega (arith, length-plan T B)), view-columns (planOf T B), columns-le (planOf T B) (small a))
 
-        pub middles-answer : (middle old′ : List ℕ) → middle ≡ filled (middleAt column centres) 0 nodes old′ → length old′ ≡ 256
-            → (k : ℕ) → k < nodes → getD middle k 0 ≡ cx length (view (planOf T B)) (columnAt (planOf T B) k)
-        middles-answer middle old′ e l k h =
-            at-whole (λ k. cx length (view (planOf T B)) (columnAt (planOf T B) k)) nodes k middle old′
-            (e ∙ middles-ruled (planOf T B) nodes (all ∙ sym (length-plan T B)) column centres old′ placed (λ j b. center-at j (omega arith)))
-            (omega (arith, a .few)) h
+      pub middles-answer : (middle old′ : List ℕ) → middle ≡ filled (middleAt column centres) 0 nodes old′ → length old′ ≡ 256
+          → (k : ℕ) → k < nodes → getD middle k 0 ≡ cx length (view (planOf T B)) (columnAt (planOf T B) k)
+      middles-answer middle old′ e l k h =
+          at-whole (λ k. cx length (view (planOf T B)) (columnAt (planOf T B) k)) nodes k middle old′
+          (e ∙ middles-ruled (planOf T B) nodes (all ∙ sym (length-plan T B)) column centres old′ placed (λ j b. center-at j (omega arith)))
+          (omega (arith, a .few)) h
 
   -- and the rows
   module _ (r : Rows) (n : ℕ) (ruled : r ≡ ruledRows (view (planOf T B))) (counted : n ≡ view (planOf T B) .rows) where

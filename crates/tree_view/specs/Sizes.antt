@@ -6,7 +6,6 @@ use lib.ListN.{getD, replicate}
 use Rattle.rules.specs.Base.{pick, halfUp}
 use Rattle.rules.specs.Plan.{depthIn}
 use Rattle.levels.specs.Filled.{filled}
-use Rattle.tree_view.specs.declared.widths.Columns.{Columns}
 use Rattle.tree_view.specs.declared.heights.Rows.{Rows}
 
 -- the greatest size k + least of the nodes k < n with key i, and at least `least`
@@ -23,6 +22,13 @@ after size start gap (suc j) = after size start gap j + size j + gap
 -- the width of column j: node k < n stands in column[k], and its longest line is longest[k]
 abbrev pub widthIn : (column longest : List ℕ) (n j : ℕ) → ℕ
 widthIn column longest n j = most (λ k. getD column k 0) (λ k. getD longest k 0) 6 n j
+
+-- where column j begins, the first at `start`; and its centre on the canvas
+abbrev pub offsetIn : (column longest : List ℕ) (n start j : ℕ) → ℕ
+offsetIn column longest n start j = after (widthIn column longest n) start 0 j
+
+abbrev pub centreIn : (column longest : List ℕ) (n start j : ℕ) → ℕ
+centreIn column longest n start j = offsetIn column longest n start j + halfUp (widthIn column longest n j)
 
 -- the height of row i: node k < n of the table has lines[k] lines
 abbrev pub heightIn : (table lines : List ℕ) (n i : ℕ) → ℕ
@@ -51,14 +57,6 @@ pub record High (table lines : List ℕ) (n : ℕ) : Type 0 where
   pub few : n ≤ 256
   pub within : Within (depthIn table) (λ k. getD lines k 0) n 32 1025
 
--- `count` columns; the width stands in every entry, also past them
-abbrev pub columnsBy : (offset width centre : ℕ → ℕ) (count : ℕ) → Columns
-columnsBy offset width centre count = record {
-  offset = filled offset 0 count (replicate 256 0);
-  width = filled width 0 256 (replicate 256 6);
-  center = filled centre 0 count (replicate 256 0);
-}
-
 -- `count` rows; the height stands in every entry, also past them
 abbrev pub rowsBy : (offset height centre : ℕ → ℕ) (count : ℕ) → Rows
 rowsBy offset height centre count = record {
@@ -66,11 +64,6 @@ rowsBy offset height centre count = record {
   height = filled height 0 32 (replicate 32 2);
   center = filled centre 0 count (replicate 32 0);
 }
-
--- the columns as the code makes them, the first at `start`
-abbrev pub columnsIn : (column longest : List ℕ) (n count start : ℕ) → Columns
-columnsIn column longest n count start =
-    columnsBy (after (widthIn column longest n) start 0) (widthIn column longest n) (λ j. halfUp (widthIn column longest n j)) count
 
 -- the rows as the code makes them, the first at 3, three apart
 abbrev pub rowsIn : (table lines : List ℕ) (n count : ℕ) → Rows

@@ -23,6 +23,5 @@ pub use size::index_digits;
 pub use size::large;
 pub use widths::Columns;
 pub use widths::canvas_width;
-pub use widths::column_centers;
 pub use widths::middles;
 pub use widths::tree_columns;

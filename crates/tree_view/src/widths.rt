@@ -4,7 +4,7 @@ ghost use mathlib.Core.Path.{_≡_};
 ghost use Prim.Native.Nat.{ℕ, _+_, _-_, _≤_, _<_, _^_};
 ghost use lib.ListN.{getD, replicate};
 ghost use Rattle.levels.specs.Filled.{filled};
-ghost use Rattle.tree_view.specs.Sizes.{widthIn, Wide, columnsIn, sumAt, middleAt};
+ghost use Rattle.tree_view.specs.Sizes.{widthIn, Wide, offsetIn, centreIn, sumAt, middleAt};
 
 pub struct Columns {
     pub offset: [u32; 256],
@@ -26,7 +26,7 @@ fn widen(nodes: usize, column: &[u32; 256], longest: &[u32; 256], width: &mut [u
     }
 }
 
-// The columns of a plan: `count` of them, the first at `start`.
+// The columns of a plan: `count` of them, the first at `start`; center[j] is the centre of column j on the canvas.
 pub fn tree_columns(
     nodes: usize,
     column: &[u32; 256],
@@ -36,7 +36,9 @@ pub fn tree_columns(
 ) -> Columns
     requires { ⌜ Wide (now column) (now longest) nodes ⌝ }
     requires { ⌜ (count ≤ 256) × (start ≤ 256) ⌝ }
-    ensures { λ r. ⌜ r ≡ columnsIn (now (column .entry)) (now (longest .entry)) nodes count start ⌝ }
+    ensures { λ r. ⌜ r .offset ≡ filled (offsetIn (now (column .entry)) (now (longest .entry)) nodes start) 0 count (replicate 256 0) ⌝ }
+    ensures { λ r. ⌜ r .width ≡ filled (widthIn (now (column .entry)) (now (longest .entry)) nodes) 0 256 (replicate 256 6) ⌝ }
+    ensures { λ r. ⌜ r .center ≡ filled (centreIn (now (column .entry)) (now (longest .entry)) nodes start) 0 count (replicate 256 0) ⌝ }
 {
     let mut c = Columns {
         offset: [0u32; 256],
@@ -50,7 +52,7 @@ pub fn tree_columns(
     while j < n {
         let w = c.width[j];
         c.offset[j] = x;
-        c.center[j] = cell::half_up(w);
+        c.center[j] = x + cell::half_up(w);
         x += w;
         j += 1;
     }
@@ -65,25 +67,6 @@ pub fn canvas_width<'a>(offset: &'a [u32; 256], width: &'a [u32; 256], count: u3
 {
     let last = text::wide(count) - 1;
     offset[last] + width[last] - 1
-}
-
-// cx[j] = the centre of column j, for the first `count` columns.
-pub fn column_centers<'a>(
-    offset: &'a [u32; 256],
-    center: &'a [u32; 256],
-    count: u32,
-    cx: &mut [u32; 256],
-)
-    requires { ⌜ count ≤ 256 ⌝ }
-    requires { ⌜ ((j : ℕ) → j < count → sumAt (now offset) (now center) j < 2 ^ 32) ⌝ }
-    ensures { λ r. ⌜ now (cx .exit) ≡ filled (sumAt (now (offset .entry)) (now (center .entry))) 0 count (now (cx .entry)) ⌝ }
-{
-    let n = text::wide(count);
-    let mut j = 0;
-    while j < n {
-        cx[j] = offset[j] + center[j];
-        j += 1;
-    }
 }
 
 // middle[k] = the centre of node k's column, for every node.

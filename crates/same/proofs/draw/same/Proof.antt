@@ -5,7 +5,7 @@ use Rattle.sight.specs.Seen.{seen}
 use Rattle.sight.specs.Plan.{planSeen}
 use Rattle.tree_view.proofs.Limits.{columns-le, rows-le}
 use Rattle.same.proofs.Known.{drawable, limits}
-use Rattle.same.proofs.Planned.{table-long, depth-low, rows-view, columns-view, column-of, digits-ask, digits-are, digits-few, columns-ask, rows-ask, laid, sizes-ask, sizes-are}
+use Rattle.same.proofs.Planned.{table-long, depth-low, rows-view, columns-view, column-of, digits-ask, digits-are, digits-few, columns-ask, rows-ask, columns-laid, rows-laid, rows-fit, sizes-ask, sizes-are, row-centers-ask, numbers}
 use Rattle.same.proofs.Told.{right-size, other-size}
 use Rattle.same.proofs.draw.same.Statement.{statement}
 use Rattle.same.proofs.draw.same.Tie as tie
@@ -51,34 +51,67 @@ tree-rows-requires c κs =
 
 sized-requires : tie.Need-sized-requires
 sized-requires c κs =
-    let s = c .before .before .before .before .before .before .before .before .before in
+    let t = c .before .before .before .before .before .before in
+    let u = t .before in
+    let g = u .before .before in
+    let q = g .before in
+    let o = q .before .before in
+    let s = o .before .before .before in
     let v = s .pre in
-    let r = rows-view v _ (c .before .before .before .before .before .before .rows .ensures) in
-    let k = c .before .before .before .before .columns .ensures in
-    let l = laid v _ _ _ _ _ _ (k .1) (columns-view v _ (k .0)) r (digits-are v _ _ r (c .before .before .before .index-digits .ensures)) (c .before .tree-columns .ensures) (c .tree-rows .ensures) in
-    let a = sizes-ask v l in
-    (a .0, (a .1, a .2))
+    let r = rows-view v _ (o .rows .ensures) in
+    let k = columns-laid v _ _ _ _ _ _ (q .columns .ensures .1) (columns-view v _ (q .columns .ensures .0)) (digits-are v _ _ r (g .index-digits .ensures)) (u .tree-columns .ensures) in
+    let l = rows-laid v _ _ r (t .tree-rows .ensures) in
+    sizes-ask v k l r
+
+row-centers-requires : tie.Need-row-centers-requires
+row-centers-requires c κs =
+    let t = c .before .before .before .before .before .before .before .before .before .before .before .before in
+    let u = t .before in
+    let g = u .before .before in
+    let q = g .before in
+    let o = q .before .before in
+    let s = o .before .before .before in
+    let v = s .pre in
+    let r = rows-view v _ (o .rows .ensures) in
+    let k = columns-laid v _ _ _ _ _ _ (q .columns .ensures .1) (columns-view v _ (q .columns .ensures .0)) (digits-are v _ _ r (g .index-digits .ensures)) (u .tree-columns .ensures) in
+    let l = rows-laid v _ _ r (t .tree-rows .ensures) in
+    (rows-fit v _ r .1, row-centers-ask v k l r)
 
 matches-requires : tie.Need-matches-requires
 matches-requires c κs =
-    let s = c .before .before .before .before .before .before .before .before .before .before .before .before in
+    let y = c .before .before .before .before .before .before .before in
+    let i = y .before .before .before .before .before in
+    let z = i .before in
+    let t = z .before .before .before .before .before .before .before in
+    let u = t .before in
+    let g = u .before .before in
+    let q = g .before in
+    let o = q .before .before in
+    let s = o .before .before .before in
     let v = s .pre in
-    let r = rows-view v _ (c .before .before .before .before .before .before .before .before .before .rows .ensures) in
-    let k = c .before .before .before .before .before .before .before .columns .ensures in
-    let l = laid v _ _ _ _ _ _ (k .1) (columns-view v _ (k .0)) r (digits-are v _ _ r (c .before .before .before .before .before .before .index-digits .ensures)) (c .before .before .before .before .tree-columns .ensures) (c .before .before .before .tree-rows .ensures) in
-    (v, (l, right-size (planSeen (s .args .cells .now) (s .args .width) (s .args .height)) (drawable v) (seen (s .args .cells .now) (s .args .width) (s .args .height)) (s .args .width) (s .args .height) _ (sizes-are v l _ (c .before .before .sized .ensures)) (c .before .if1 .taken)))
+    let r = rows-view v _ (o .rows .ensures) in
+    let k = columns-laid v _ _ _ _ _ _ (q .columns .ensures .1) (columns-view v _ (q .columns .ensures .0)) (digits-are v _ _ r (g .index-digits .ensures)) (u .tree-columns .ensures) in
+    let l = rows-laid v _ _ r (t .tree-rows .ensures) in
+    let e = right-size (planSeen (s .args .cells .now) (s .args .width) (s .args .height)) (drawable v) (seen (s .args .cells .now) (s .args .width) (s .args .height)) (s .args .width) (s .args .height) _ (sizes-are v k l r _ (z .sized .ensures)) (i .if1 .taken) in
+    (v, (column-of v _ (q .columns .ensures .1), numbers v k l r _ (y .row-centers .ensures) (e .0) (e .1)))
 
 returns : tie.Need-returns
 returns c = c .matches .ensures
 
 returns-2 : tie.Need-returns-2
 returns-2 c =
-    let s = c .before .before .before .before .before .before .before .before .before .before .before in
+    let z = c .before in
+    let t = z .before .before .before .before .before .before .before in
+    let u = t .before in
+    let g = u .before .before in
+    let q = g .before in
+    let o = q .before .before in
+    let s = o .before .before .before in
     let v = s .pre in
-    let r = rows-view v _ (c .before .before .before .before .before .before .before .before .rows .ensures) in
-    let k = c .before .before .before .before .before .before .columns .ensures in
-    let l = laid v _ _ _ _ _ _ (k .1) (columns-view v _ (k .0)) r (digits-are v _ _ r (c .before .before .before .before .before .index-digits .ensures)) (c .before .before .before .tree-columns .ensures) (c .before .before .tree-rows .ensures) in
-    other-size (planSeen (s .args .cells .now) (s .args .width) (s .args .height)) (drawable v) (seen (s .args .cells .now) (s .args .width) (s .args .height)) (s .args .width) (s .args .height) _ (sizes-are v l _ (c .before .sized .ensures)) (c .if1 .left)
+    let r = rows-view v _ (o .rows .ensures) in
+    let k = columns-laid v _ _ _ _ _ _ (q .columns .ensures .1) (columns-view v _ (q .columns .ensures .0)) (digits-are v _ _ r (g .index-digits .ensures)) (u .tree-columns .ensures) in
+    let l = rows-laid v _ _ r (t .tree-rows .ensures) in
+    other-size (planSeen (s .args .cells .now) (s .args .width) (s .args .height)) (drawable v) (seen (s .args .cells .now) (s .args .width) (s .args .height)) (s .args .width) (s .args .height) _ (sizes-are v k l r _ (z .sized .ensures)) (c .if1 .left)
 
 pub same-spec : {M : Type 1} → statement M
 same-spec =
@@ -91,6 +124,7 @@ same-spec =
     tree-columns-requires
     tree-rows-requires
     sized-requires
+    row-centers-requires
     matches-requires
     returns
     returns-2)

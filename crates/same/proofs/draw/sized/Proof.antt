@@ -12,7 +12,7 @@ canvas-height-requires : tie.Need-canvas-height-requires
 canvas-height-requires c κs = search needs
 
 returns : tie.Need-returns
-returns c = rw (eq-eqb _ _ (c .before .before .before .before .if1 .taken ∙ c .before .before .before .before .before .canvas-width .ensures), c .canvas-height .ensures)
+returns c = rw (eq-eqb _ _ (c .before .if1 .taken ∙ c .before .before .canvas-width .ensures), c .canvas-height .ensures)
 
 returns-2 : tie.Need-returns-2
 returns-2 c = rw (ne-eqb _ _ (λ e. c .if1 .left (e ∙ sym (c .before .canvas-width .ensures))))

@@ -1,17 +1,16 @@
 -- Rows, digits, columns, the canvas' size, centres: each answer of tree_view is the rules', for the measures that were filled.
-use mathlib.Core.Path.{_≡_, refl, ap, _∙_}
+use mathlib.Core.Path.{refl, ap, _∙_}
 use mathlib.Core.Bool.{true}
 use native.Mathlib.Omega.{arith}
 use lib.ListN.{replicate}
 use Rattle.rules.specs.Plan.{planOf}
 use Rattle.levels.specs.Filled.{filled}
 use Rattle.levels.proofs.Accepted.{checked-accepted, checked-some, depth-small}
-use Rattle.tree_view.specs.declared.widths.Columns.{Columns}
 use Rattle.tree_view.specs.declared.heights.Rows.{Rows}
 use Rattle.tree_view.specs.Sizes.{sumAt}
 use Rattle.tree_view.proofs.Limits.{d-le, columns-le, rows-le}
 use Rattle.tree_view.proofs.Table.{small}
-use Rattle.tree_view.proofs.Whole.{count-view, rows-view, digits-asks, digits-ruled, columns-ask, rows-ask, width-asks, width-answers, height-asks, height-answers, columns-small, centers-ask, rows-small, row-centers-ask}
+use Rattle.tree_view.proofs.Whole.{count-view, rows-view, digits-asks, digits-ruled, columns-ask, rows-ask, width-asks, width-answers, height-asks, height-answers, rows-small, row-centers-ask}
 use Rattle.tree_format.proofs.Measures.{columns-answered, rows-answered}
 use borrow.Author.Needs.{needs}
 use Rattle.tree_format.proofs.draw.measured.Statement.{statement}
@@ -73,10 +72,9 @@ canvas-width-requires c κs =
     let a = checked-accepted true (s .args .table .now) (s .args .titles .now) (s .pre .0 .0) in
     let n = s .args .nodes in
     let m = s .pre .1 .0 in
-    let k = count-view a n (s .pre .0 .1) (s .args .ncols) (s .pre .1 .1) in
-    let cs = columns-answered a m n (s .args .ncols) (o .rows .result) (i .index-digits .result) (u .tree-columns .result) (s .pre .0 .1) (s .pre .1 .1) (o .rows .ensures) (i .index-digits .ensures) (u .tree-columns .ensures) in
+    let cs = columns-answered a m n (s .args .ncols) (o .rows .result) (i .index-digits .result) _ _ _ (s .pre .0 .1) (s .pre .1 .1) (o .rows .ensures) (i .index-digits .ensures) (u .tree-columns .ensures) in
     let some = checked-some (s .args .table .now) (s .args .titles .now) (s .pre .0 .0) in
-    width-asks a n (s .pre .0 .1) (u .tree-columns .result) (s .args .ncols) cs k (omega (arith, some, s .pre .0 .1))
+    width-asks a n (s .pre .0 .1) cs (omega (arith, some, s .pre .0 .1))
 
 canvas-height-requires : tie.Need-canvas-height-requires
 canvas-height-requires c κs =
@@ -92,24 +90,9 @@ canvas-height-requires c κs =
     let rs = rows-answered a m n (o .rows .result) (t .tree-rows .result) (s .pre .0 .1) (o .rows .ensures) (t .tree-rows .ensures) in
     height-asks a n (s .pre .0 .1) (t .tree-rows .result) (o .rows .result) rs r
 
-column-centers-requires : tie.Need-column-centers-requires
-column-centers-requires c κs =
-    let t = c .before .before .before .before .before .before .before .before .before .before .before .before in
-    let u = t .before in
-    let i = u .before in
-    let o = i .before in
-    let s = o .before .before .before .before .before in
-    let a = checked-accepted true (s .args .table .now) (s .args .titles .now) (s .pre .0 .0) in
-    let n = s .args .nodes in
-    let m = s .pre .1 .0 in
-    let k = count-view a n (s .pre .0 .1) (s .args .ncols) (s .pre .1 .1) in
-    let cs = columns-answered a m n (s .args .ncols) (o .rows .result) (i .index-digits .result) (u .tree-columns .result) (s .pre .0 .1) (s .pre .1 .1) (o .rows .ensures) (i .index-digits .ensures) (u .tree-columns .ensures) in
-    let c′ = u .tree-columns .result in
-    (columns-small a n (s .pre .0 .1) c′ (s .args .ncols) cs k, centers-ask a n (s .pre .0 .1) c′ (s .args .ncols) cs k)
-
 row-centers-requires : tie.Need-row-centers-requires
 row-centers-requires c κs =
-    let t = c .before .before .before .before .before .before .before .before .before .before .before .before .before .before .before .before .before in
+    let t = c .before .before .before .before .before .before .before .before .before .before .before .before in
     let u = t .before in
     let i = u .before in
     let o = i .before in
@@ -124,7 +107,10 @@ row-centers-requires c κs =
 
 sized-requires : tie.Need-sized-requires
 sized-requires c κs =
-    let t = c .before .before .before .before .before .before .before .before .before .before .before .before .before .before .before .before .before .before .before .before .before .before .before .before in
+    let y = c .before .before .before .before .before .before .before in
+    let h = y .before .before .before .before .before in
+    let w = h .before .before .before .before in
+    let t = w .before .before .before .before in
     let u = t .before in
     let i = u .before in
     let o = i .before in
@@ -132,28 +118,23 @@ sized-requires c κs =
     let a = checked-accepted true (s .args .table .now) (s .args .titles .now) (s .pre .0 .0) in
     let n = s .args .nodes in
     let m = s .pre .1 .0 in
-    let k = count-view a n (s .pre .0 .1) (s .args .ncols) (s .pre .1 .1) in
-    let cs = columns-answered a m n (s .args .ncols) (o .rows .result) (i .index-digits .result) (u .tree-columns .result) (s .pre .0 .1) (s .pre .1 .1) (o .rows .ensures) (i .index-digits .ensures) (u .tree-columns .ensures) in
+    let cs = columns-answered a m n (s .args .ncols) (o .rows .result) (i .index-digits .result) _ _ _ (s .pre .0 .1) (s .pre .1 .1) (o .rows .ensures) (i .index-digits .ensures) (u .tree-columns .ensures) in
     let r = rows-view a n (s .pre .0 .1) (o .rows .result) (o .rows .ensures) in
     let rs = rows-answered a m n (o .rows .result) (t .tree-rows .result) (s .pre .0 .1) (o .rows .ensures) (t .tree-rows .ensures) in
-    let some = checked-some (s .args .table .now) (s .args .titles .now) (s .pre .0 .0) in
-    let x = c .before .before .before .before .before .before .before .before .before .before .before in
-    let y = c .before .before .before .before .before .before in
-    let w = c .before .before .before .before .before .before .before .before .before .before .before .before .before .before .before .before .before .before .before .before in
-    let h = c .before .before .before .before .before .before .before .before .before .before .before .before .before .before .before .before in (
+    let some = checked-some (s .args .table .now) (s .args .titles .now) (s .pre .0 .0) in (
       s .pre .0,
       (
         m,
         (
           record {
-            columns-are = x .column-centers .ensures ∙ ap (λ (q : Columns). filled (sumAt (q .offset) (q .center)) 0 (s .args .ncols) (replicate 256 0)) cs;
-            count-is = k;
+            columns-are = cs .centres;
+            count-is = cs .counted;
             rows-are = y .row-centers .ensures ∙ ap (λ (q : Rows). filled (sumAt (q .offset) (q .center)) 0 (o .rows .result) (replicate 32 0)) rs;
             offset-is = ap (λ (q : Rows). q .offset) rs;
             row-count-is = r;
           },
           record {
-            width-is = width-answers a n (s .pre .0 .1) (u .tree-columns .result) (s .args .ncols) cs k (w .canvas-width .result) (omega (arith, some, s .pre .0 .1)) (w .canvas-width .ensures);
+            width-is = width-answers a n (s .pre .0 .1) cs (w .canvas-width .result) (omega (arith, some, s .pre .0 .1)) (w .canvas-width .ensures);
             height-is = height-answers a n (s .pre .0 .1) (t .tree-rows .result) (o .rows .result) rs r (h .canvas-height .result) (h .canvas-height .ensures);
           },
         ),
@@ -180,7 +161,6 @@ measured-spec =
     tree-rows-requires
     canvas-width-requires
     canvas-height-requires
-    column-centers-requires
     row-centers-requires
     sized-requires
     same-length

@@ -2,9 +2,6 @@
 use mathlib.Core.Path.{refl}
 use native.Mathlib.Omega.{arith}
 use lib.ListN.{replicate}
-use Rattle.rules.specs.Plan.{planOf}
-use Rattle.rules.specs.Levels.{view}
-use Rattle.tree_view.specs.Ruled.{ruledColumns}
 use Rattle.tree_view.proofs.Whole.{middles-ask}
 use Rattle.tree_format.proofs.Measures.{column-of, arrays}
 use borrow.Author.Needs.{needs}
@@ -16,7 +13,7 @@ middles-requires c κs =
     let s = c .before .before .before .before in
     let l = s .pre .1 .1 .0 in (
       omega (arith, s .pre .0 .1 .few, s .pre .0 .2),
-      middles-ask (s .pre .0 .1) (s .args .nodes) (s .pre .0 .2) (ruledColumns (view (planOf (s .args .table .now) (s .args .titles .now)))) (s .args .ncols) refl (l .count-is)
+      middles-ask (s .pre .0 .1) (s .args .nodes) (s .pre .0 .2) (s .args .ncols) (l .count-is)
           (s .args .cx .now) (replicate 256 0) (l .columns-are) refl (s .args .column .now) (λ k h. column-of (s .pre .0 .1) (s .pre .1 .0) k (omega (arith, s .pre .0 .2))),
     )
 
