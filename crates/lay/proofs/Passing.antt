@@ -13,6 +13,7 @@ use Rattle.rules.proofs.FirstChar.{CharHere}
 use Rattle.rules.proofs.Lists.{sets-append}
 use Rattle.text.specs.Within.{Within}
 use Rattle.lay.specs.Left.{Left}
+use Rattle.lay.specs.Copied.{Copied, Fits}
 
 module _ (s : List ℕ) where
   -- n bytes below 80 from a on are the next n code points
@@ -41,9 +42,8 @@ module _ (s : List ℕ) where
 -- ---- a line being written to a row
 module _ {all : List ℕ} {n m : ℕ} (row line : List ℕ) (at k : ℕ) (f : Left all n m row line at k) where
   -- a run of bytes below 80 is copied
-  pub left-run : (to : ℕ) (new : List ℕ) → at ≤ to → to ≤ length line → Within line 0 0x7F at to → new ≡ sets row k (take (to - at) (drop at line))
-      → Left all n m new line to (k + (to - at))
-  left-run to new h l w e =
+  pub left-run : (to : ℕ) (new : List ℕ) → Copied row k line at to new → Left all n m new line to (k + (to - at))
+  left-run to new (h, l, w, e) =
       let z : at + (to - at) ≡ to = omega arith in
       let p = rw z at (low-points line at (to - at) (omega arith) (rw z w)) in
       let z′ : length (take (to - at) (drop at line)) ≡ to - at = length-take-le (to - at) (drop at line) (omega (arith, length-drop at line)) in
@@ -56,7 +56,7 @@ module _ {all : List ℕ} {n m : ℕ} (row line : List ℕ) (at k : ℕ) (f : Le
         same = f .same ∙ ap (sets row k) p ∙ sets-append row k (take (to - at) (drop at line)) (points (drop to line)) ∙ rw (z′, e);
       }
 
-  pub run-fits : (to : ℕ) → at ≤ to → to ≤ length line → Within line 0 0x7F at to → k + (to - at) ≤ length row
+  pub run-fits : Fits line at k (length row)
   run-fits to h l w =
       let z : at + (to - at) ≡ to = omega arith in
       let p = rw z at (low-points line at (to - at) (omega arith) (rw z w)) in

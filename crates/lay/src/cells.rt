@@ -10,6 +10,7 @@ ghost use Rattle.rules.specs.Lines.{linesOf};
 ghost use Rattle.rules.specs.Reader.{ended, pictureWidth, pictureArea, padded};
 ghost use Rattle.lay.specs.Rows.{codes, rowOf, rows};
 ghost use Rattle.lay.specs.Left.{Left};
+ghost use Rattle.lay.specs.Copied.{Copied, Fits};
 use crate::size::body;
 use crate::size::line_end;
 
@@ -24,6 +25,57 @@ fn copy(row: &mut [u32], k: usize, line: &[u8], from: usize, to: usize)
         row[k + i] = line[from + i] as u32;
         i += 1;
     }
+}
+
+// Copies plain bytes from `from` on to cells from k on, byte by byte, up to the first that is not plain.
+fn put_few(row: &mut [u32], k: usize, line: &[u8], from: usize) -> usize
+    requires { ⌜ (from ≤ length (now line)) × Fits (now line) from k (length (now row)) ⌝ }
+    ensures { λ r. ⌜ Copied (now (row .entry)) k (now (line .entry)) from r (now (row .exit)) ⌝ }
+{
+    let mut at = from;
+    let mut to = k;
+    while at < line.len() {
+        let b = line[at];
+        if 0x80 <= b {
+            return at;
+        }
+        row[to] = b as u32;
+        at += 1;
+        to += 1;
+    }
+    at
+}
+
+// The same for a long run: its end first, and then all of it at once.
+fn put_long(row: &mut [u32], k: usize, line: &[u8], from: usize) -> usize
+    requires { ⌜ (from ≤ length (now line)) × Fits (now line) from k (length (now row)) ⌝ }
+    ensures { λ r. ⌜ Copied (now (row .entry)) k (now (line .entry)) from r (now (row .exit)) ⌝ }
+{
+    let end = text::run_within(line, from, 0, 0x7F);
+    copy(row, k, line, from, end);
+    end
+}
+
+// The same for any run: sixteen at a time while they are plain, and after 64 bytes the rest as a long one.
+fn put_plain(row: &mut [u32], k: usize, line: &[u8], from: usize) -> usize
+    requires { ⌜ (from ≤ length (now line)) × Fits (now line) from k (length (now row)) ⌝ }
+    ensures { λ r. ⌜ Copied (now (row .entry)) k (now (line .entry)) from r (now (row .exit)) ⌝ }
+{
+    let mut at = from;
+    let mut to = k;
+    while 16 <= line.len() - at {
+        if 64 <= at - from {
+            return put_long(row, to, line, at);
+        }
+        if text::sixteen_within(line, at, 0, 0x7F) {
+            copy(row, to, line, at, at + 16);
+            at += 16;
+            to += 16;
+        } else {
+            return put_few(row, to, line, at);
+        }
+    }
+    put_few(row, to, line, at)
 }
 
 // How many bytes of a line are read, and how many cells of a row are written.
@@ -62,8 +114,7 @@ fn put_points(row: &mut [u32], line: &[u8]) -> usize
     let mut at = 0;
     let mut k = 0;
     loop {
-        let to = text::run_within(line, at, 0, 0x7F);
-        copy(row, k, line, at, to);
+        let to = put_plain(row, k, line, at);
         k += to - at;
         if to == line.len() {
             return k;

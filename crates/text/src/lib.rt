@@ -16,6 +16,7 @@ pub use number::greater;
 pub use number::longer;
 pub use number::wide;
 pub use run::run_within;
+pub use run::sixteen_within;
 pub use utf8::Point;
 pub use utf8::decode;
 pub use utf8::plain;

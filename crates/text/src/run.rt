@@ -35,7 +35,7 @@ fn four_within(s: &[u8], at: usize, low: u8, high: u8) -> bool
 }
 
 // The sixteen bytes from `at` on lie within bounds, if it says so.
-fn sixteen_within(s: &[u8], at: usize, low: u8, high: u8) -> bool
+pub fn sixteen_within(s: &[u8], at: usize, low: u8, high: u8) -> bool
     requires { ⌜ at + 16 ≤ length (now s) ⌝ }
     ensures { λ r. ⌜ (r ≡ true → Within (now (s .entry)) low high at (at + 16)) ⌝ }
 {

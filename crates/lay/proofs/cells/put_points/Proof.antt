@@ -24,72 +24,63 @@ loop-holds c =
     let s = c .before .before in
     record { here = omega arith; rest = s .pre .0; room = omega (arith, s .pre .1); count = omega arith; long = refl; same = refl }
 
-run-within-requires : tie.Need-run-within-requires Inv-loop μ-loop
-run-within-requires c κs = c .loop .inv .here
-
-copy-requires : tie.Need-copy-requires Inv-loop μ-loop
-copy-requires c κs =
-    let l = c .before .before .loop in
-    let r = c .before .run-within in
-    let a = c .before .before .before .before .before .args in
-    (r .ensures .0, r .ensures .1, run-fits (l .row) (a .line .now) (l .at) (l .k) (l .inv) (r .result) (r .ensures .0) (r .ensures .1) (r .ensures .2))
+put-plain-requires : tie.Need-put-plain-requires Inv-loop μ-loop
+put-plain-requires c κs =
+    let l = c .before .loop in
+    let a = c .before .before .before .before .args in
+    (l .inv .here, run-fits (l .row) (a .line .now) (l .at) (l .k) (l .inv))
 
 sub-k : tie.Need-sub-k Inv-loop μ-loop
 sub-k c = search needs
 
 add-k : tie.Need-add-k Inv-loop μ-loop
 add-k c =
-    let l = c .before .before .before .before .before .loop in
-    let r = c .before .before .before .before .run-within in
-    let a = c .before .before .before .before .before .before .before .before .args in
+    let l = c .before .before .before .before .loop in
+    let r = c .before .before .put-plain in
+    let a = c .before .before .before .before .before .before .before .args in
     record { fits = omega (arith, run-fits (l .row) (a .line .now) (l .at) (l .k) (l .inv) (r .result) (r .ensures .0) (r .ensures .1) (r .ensures .2)) }
 
 same-length : tie.Need-same-length Inv-loop μ-loop
 same-length c =
-    let l = c .before .before .before .before .before .before .loop in
-    let r = c .before .before .before .before .before .run-within in
-    let a = c .before .before .before .before .before .before .before .before .before .args in
-    let w = c .before .before .before .copy in
-    let f = left-run (l .row) (a .line .now) (l .at) (l .k) (l .inv) (r .result) (w .last .0) (r .ensures .0) (r .ensures .1) (r .ensures .2) (w .ensures) in
+    let l = c .before .before .before .before .before .loop in
+    let r = c .before .before .before .put-plain in
+    let a = c .before .before .before .before .before .before .before .before .args in
+    let f = left-run (l .row) (a .line .now) (l .at) (l .k) (l .inv) (r .result) (r .last .0) (r .ensures) in
     f .long
 
 returns : tie.Need-returns Inv-loop μ-loop
 returns c =
-    let l = c .before .before .before .before .before .before .loop in
-    let r = c .before .before .before .before .before .run-within in
-    let a = c .before .before .before .before .before .before .before .before .before .args in
-    let w = c .before .before .before .copy in
-    let f = left-run (l .row) (a .line .now) (l .at) (l .k) (l .inv) (r .result) (w .last .0) (r .ensures .0) (r .ensures .1) (r .ensures .2) (w .ensures) in
-    left-none (w .last .0) (a .line .now) (r .result) (l .k + (r .result - l .at)) f (omega arith)
+    let l = c .before .before .before .before .before .loop in
+    let r = c .before .before .before .put-plain in
+    let a = c .before .before .before .before .before .before .before .before .args in
+    let f = left-run (l .row) (a .line .now) (l .at) (l .k) (l .inv) (r .result) (r .last .0) (r .ensures) in
+    left-none (r .last .0) (a .line .now) (r .result) (l .k + (r .result - l .at)) f (omega arith)
 
 put-wide-requires : tie.Need-put-wide-requires Inv-loop μ-loop
 put-wide-requires c κs =
-    let l = c .before .before .before .before .before .before .before .loop in
-    let r = c .before .before .before .before .before .before .run-within in
-    let a = c .before .before .before .before .before .before .before .before .before .before .args in
-    let w = c .before .before .before .before .copy in
-    let f = left-run (l .row) (a .line .now) (l .at) (l .k) (l .inv) (r .result) (w .last .0) (r .ensures .0) (r .ensures .1) (r .ensures .2) (w .ensures) in
+    let l = c .before .before .before .before .before .before .loop in
+    let r = c .before .before .before .before .put-plain in
+    let a = c .before .before .before .before .before .before .before .before .before .args in
+    let f = left-run (l .row) (a .line .now) (l .at) (l .k) (l .inv) (r .result) (r .last .0) (r .ensures) in
     (omega (arith, r .ensures .1), f .rest, f .room)
 
 loop-less : tie.Need-loop-less Inv-loop μ-loop
 loop-less c =
-    let l = c .before .before .before .before .before .before .before .before .before .before .loop in
-    let r = c .before .before .before .before .before .before .before .before .before .run-within in
-    let a = c .before .before .before .before .before .before .before .before .before .before .before .before .before .args in
-    let w = c .before .before .before .before .before .before .before .copy in
-    let f = left-run (l .row) (a .line .now) (l .at) (l .k) (l .inv) (r .result) (w .last .0) (r .ensures .0) (r .ensures .1) (r .ensures .2) (w .ensures) in
+    let l = c .before .before .before .before .before .before .before .before .before .loop in
+    let r = c .before .before .before .before .before .before .before .put-plain in
+    let a = c .before .before .before .before .before .before .before .before .before .before .before .before .args in
+    let f = left-run (l .row) (a .line .now) (l .at) (l .k) (l .inv) (r .result) (r .last .0) (r .ensures) in
     let p = c .before .before .put-wide in
     omega (arith, p .ensures .0, p .ensures .1 .here, r .ensures .0)
 
 loop-again : tie.Need-loop-again Inv-loop μ-loop
 loop-again c =
-    let l = c .before .before .before .before .before .before .before .before .before .before .loop in
-    let r = c .before .before .before .before .before .before .before .before .before .run-within in
-    let a = c .before .before .before .before .before .before .before .before .before .before .before .before .before .args in
-    let w = c .before .before .before .before .before .before .before .copy in
-    let f = left-run (l .row) (a .line .now) (l .at) (l .k) (l .inv) (r .result) (w .last .0) (r .ensures .0) (r .ensures .1) (r .ensures .2) (w .ensures) in
+    let l = c .before .before .before .before .before .before .before .before .before .loop in
+    let r = c .before .before .before .before .before .before .before .put-plain in
+    let a = c .before .before .before .before .before .before .before .before .before .before .before .before .args in
+    let f = left-run (l .row) (a .line .now) (l .at) (l .k) (l .inv) (r .result) (r .last .0) (r .ensures) in
     let p = c .before .before .put-wide in
-    left-on (w .last .0) (a .line .now) (r .result) (l .k + (r .result - l .at)) f (p .ensures .1)
+    left-on (r .last .0) (a .line .now) (r .result) (l .k + (r .result - l .at)) f (p .ensures .1)
 
 pub put-points-spec : {M : Type 1} → statement M
 put-points-spec =
@@ -98,8 +89,7 @@ put-points-spec =
     Inv-loop
     μ-loop
     loop-holds
-    run-within-requires
-    copy-requires
+    put-plain-requires
     sub-k
     add-k
     same-length
