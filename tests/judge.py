@@ -4,7 +4,7 @@ Texts and the crate's graphs come from the Rust crate itself (../shared/oracle b
 plan that is read off a picture and what is left in lent memory from a second reading of document 01 (../shared/model/rules.py).
 Nothing here runs our code.
 """
-import os, struct, subprocess, sys
+import os, shutil, struct, subprocess, sys
 
 ROOT = os.path.dirname(os.path.dirname(os.path.abspath(__file__)))
 SHARED = os.path.join(os.path.dirname(ROOT), 'shared')
@@ -22,6 +22,13 @@ def missing():
     if rules is None or not os.path.isdir(os.path.join(SHARED, 'oracle')): return '../shared is not here'
     try: subprocess.run(['rustc', '--version'], check=True, capture_output=True)
     except (OSError, subprocess.CalledProcessError): return 'rustc is not here'
+    if not shutil.which('cc'): return 'cc, which rustc links with, is not here'
+
+
+def left_out(line):
+    """Says what a test left out, also in the file LEFT_OUT, if tests/run names one."""
+    print(line)
+    with open(os.environ.get('LEFT_OUT', os.devnull), 'a') as f: f.write(line + '\n')
 
 
 def command(program):

@@ -95,7 +95,7 @@ fn border(cells: &mut [u32], size: Size, x: u32, y: u32, t: u32, left: u32, righ
 }
 
 // Draws a box with the top left corner (x, y) around n rows of t marks.
-pub fn draw_box(cells: &mut [u32], size: Size, x: u32, y: u32, t: u32, n: u32)
+pub(crate) fn draw_box(cells: &mut [u32], size: Size, x: u32, y: u32, t: u32, n: u32)
     requires { ⌜ (size .width * size .height ≤ length (now cells)) × (x + t < 2 ^ 31) × (y + n < 2 ^ 31) ⌝ }
     ensures { λ _. ⌜ now (cells .exit) ≡ stroked (size .width) (size .height) (frame boxes x y t n) (now (cells .entry)) ⌝ }
 {

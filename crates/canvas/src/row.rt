@@ -50,7 +50,7 @@ fn letters_fitting(row: &mut [u32], x: usize, line: &[u8])
     let mut at = 0;
     let mut k = x;
     while at < line.len() {
-        let p = text::decode(&line[at..]);
+        let p = utf8::decode(&line[at..]);
         row[k] = p.value;
         at += p.size;
         k += 1;
@@ -75,7 +75,7 @@ fn letters_within(row: &mut [u32], x: usize, line: &[u8])
     requires { ⌜ (valid (now line) ≡ true) × (x + length (now line) ≤ length (now row)) ⌝ }
     ensures { λ _. ⌜ now (row .exit) ≡ sets (now (row .entry)) x (points (now (line .entry))) ⌝ }
 {
-    if text::plain(line) {
+    if utf8_runs::plain(line) {
         letters_plain(row, x, line);
         return;
     }
@@ -93,7 +93,7 @@ fn letters_clipped(row: &mut [u32], x: usize, line: &[u8])
         if row.len() <= k {
             return;
         }
-        let p = text::decode(&line[at..]);
+        let p = utf8::decode(&line[at..]);
         row[k] = p.value;
         at += p.size;
         k += 1;

@@ -1,12 +1,10 @@
 -- The text row by row: each row lies in the cells, what is written of the text never takes more room than all of it, and the whole fits a usize.
-use mathlib.Core.Path.{_≡_, _∙_}
+use mathlib.Core.Path.{_≡_}
 use mathlib.Core.List.{List, _++_}
 use Prim.Native.Nat.{ℕ, suc, _+_, _-_, _*_, _≤_, _<_}
 use native.Mathlib.Nat.{suc-mul, add-sub-cancel-left, mul-comm, mul-le-mul-right, mul-add, mul-one, mul-left-comm}
 use native.Mathlib.Omega.{arith}
 use lib.ListN.{length, getD, take, drop}
-use lib.Seq.{sets, sets-eq}
-use Rattle.rules.specs.Base.{laid}
 use Rattle.rules.specs.Drawing.{rowText, textOf}
 use Rattle.rules.proofs.Text.{each-next, each-room, text-bound}
 use Rattle.canvas.proofs.Lent.{row-fits}
@@ -40,8 +38,3 @@ module _ (f : ℕ → ℕ → ℕ) (w : ℕ) where
 
   pub text-size : (h : ℕ) → length (textOf f w h) ≤ 4 * (w * h) + h
   text-size h = omega (arith, text-bound f w h, mul-add h (4 * w) 1, mul-left-comm h 4 w, mul-comm h w, mul-one h)
-
--- what is stored from the front on is laid there
-pub laid-sets : (w l : List ℕ) → length w ≤ length l → sets l 0 w ≡ laid w l
-unfolding laid
-laid-sets w l h = let z : 0 + length w ≡ length w = omega arith in sets-eq w l 0 (omega arith) ∙ rw z

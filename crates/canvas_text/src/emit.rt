@@ -181,7 +181,7 @@ fn row_bytes(row: &[u32]) -> usize
 }
 
 // The bytes of the whole text.
-pub fn text_bytes(cells: &[u32], width: usize, height: usize) -> usize
+fn text_bytes(cells: &[u32], width: usize, height: usize) -> usize
     requires { ⌜ (width * height ≤ length (now cells)) × (width * height ≤ 1048576) × (height ≤ 65536) ⌝ }
     ensures { λ r. ⌜ r ≡ length (textOf (cellsOf (now (cells .entry)) width) width height) ⌝ }
 {
@@ -240,7 +240,7 @@ fn put_line(out: &mut [u8], at: usize) -> usize
     let mut to = at;
     let mut k = 0usize;
     while k < 16 {
-        to = text::encode(0x2500, out, to);
+        to = utf8::encode(0x2500, out, to);
         k += 1;
     }
     to
@@ -257,7 +257,7 @@ fn put_mark(v: u32, out: &mut [u8], at: usize) -> usize
     at + 3
 }
 
-// Writes one cell, and answers the place after it: what text::encode does, with short ways for a plain cell and for ─ to ┿.
+// Writes one cell, and answers the place after it: what utf8::encode does, with short ways for a plain cell and for ─ to ┿.
 fn put_cell(v: u32, out: &mut [u8], at: usize) -> usize
     requires { ⌜ (at + length (utf8 v) ≤ length (now out)) × (v < 0x200000) ⌝ }
     ensures { λ r. ⌜ (r ≡ at + length (utf8 v)) × (now (out .exit) ≡ sets (now (out .entry)) at (utf8 v)) ⌝ }
@@ -271,7 +271,7 @@ fn put_cell(v: u32, out: &mut [u8], at: usize) -> usize
             return put_mark(v, out, at);
         }
     }
-    text::encode(v, out, at)
+    utf8::encode(v, out, at)
 }
 
 // Writes n cells from x on, one by one, and answers the place after them.

@@ -6,7 +6,6 @@ use mathlib.Core.Bool.{Bool, true, false}
 use Prim.Native.Nat.{ℕ, _+_, _/_, _≤_, _<_}
 use native.Mathlib.Omega.{arith}
 use lib.ListN.{length, getD}
-use lib.Seq.{sets-eq}
 use borrow.Author.Tests.{lt-ltb, le-ltb}
 use Rattle.rules.specs.Base.{pick, laid}
 use Rattle.rules.specs.Plan.{count, planOf}
@@ -19,19 +18,14 @@ use Rattle.levels.specs.Accepted.{checked, Accepted}
 use Rattle.levels.specs.Filled.{filled}
 use Rattle.levels.proofs.Accepted.{depth-small, graph-next, graph-stops}
 use Rattle.levels.proofs.Filled.{filled-at}
-use Rattle.graphs.specs.Put.{Put}
+use Rattle.put.specs.Put.{Put}
 use Rattle.graphs.specs.Entries.{Ready}
-use Rattle.graphs.proofs.Puts.{put-length}
+use Rattle.put.proofs.Puts.{put-length, put-laid}
 
 -- nothing is written where there is no room at all
 empty : (l : List ℕ) → length l ≡ 0 → l ≡ []
 empty [] e = refl
 empty (x ∷ l) e = absurd (omega arith)
-
--- all is laid at the start where there is room for all
-put-laid : (G l m : List ℕ) (r : ℕ) → Put G 0 l m r → length G ≤ length l → m ≡ laid G l
-unfolding laid
-put-laid G l m r p h = let e : 0 + length G ≡ length G = omega arith in p .holds ∙ sets-eq G l 0 (omega arith) ∙ rw e
 
 module _ {G m : List ℕ} {need : ℕ} (p : Put G 0 [] m need) (l : List ℕ) where
   counted : m ++ l ≡ l

@@ -17,9 +17,9 @@ use Rattle.rules.specs.Graph.{Form, joined, graph}
 use Rattle.levels.specs.Accepted.{Accepted}
 use Rattle.graphs.specs.Forms.{formOf}
 use Rattle.graphs.specs.Entries.{lead, rowEntries, entriesIn, allEntries, gap}
-use Rattle.graphs.specs.Put.{Put}
+use Rattle.put.specs.Put.{Put}
 use Rattle.graphs.proofs.Entries.{lead-parts}
-use Rattle.graphs.proofs.Puts.{then}
+use Rattle.put.proofs.Puts.{then}
 use Rattle.graphs.proofs.Bounds.{rows-most, levels-most}
 
 pub gap-some : (at : ℕ) → at ≡ 7 → gap at ≡ 10 ∷ 32 ∷ 32 ∷ 32 ∷ 32 ∷ []

@@ -1,4 +1,3 @@
-pub mod Puts
 pub mod Escapes
 pub mod Names
 pub mod Entries

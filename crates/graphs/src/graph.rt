@@ -1,5 +1,5 @@
 // The graphs: one walk over the plan counts and writes, in both forms.
-use crate::put;
+use crate::label;
 use rules::Answer;
 ghost use mathlib.Core.Path.{_≡_};
 ghost use Prim.Native.Nat.{_+_, _<_, _≤_, _^_};
@@ -9,7 +9,7 @@ ghost use Rattle.rules.specs.Plan.{count, depthIn, planOf};
 ghost use Rattle.rules.specs.Graph.{name, bare, fenced, graph as graphOf};
 ghost use Rattle.rules.specs.Answers.{done, inRoom, graphAnswer, graphAfter};
 ghost use Rattle.levels.specs.Accepted.{Accepted};
-ghost use Rattle.graphs.specs.Put.{Put};
+ghost use Rattle.put.specs.Put.{Put};
 ghost use Rattle.graphs.specs.Forms.{formOf};
 ghost use Rattle.graphs.specs.Entries.{lead, spotIn, edgeIn, edgesIn, nodeIn, backward, rowEntries, allEntries, gap, Ready};
 
@@ -26,7 +26,7 @@ fn name_of(
     requires { ⌜ (k < count (now table)) × (at + length (name (formOf fenced) (spotIn (now table) k)) < 2 ^ 64) ⌝ }
     ensures { λ r. ⌜ Put (name (formOf fenced) (spotIn (now (table .entry)) k)) at (now (out .entry)) (now (out .exit)) r ⌝ }
 {
-    put::name(out, at, table[3 * k], column[k], fenced)
+    label::name(out, at, table[3 * k], column[k], fenced)
 }
 
 // Puts the edge from node k to node m, with what stands before an entry.
@@ -92,7 +92,7 @@ fn node(
     let a = put::bytes(out, at, b"\n    ");
     let b = name_of(out, a, table, column, k, fenced);
     let c = put::bytes(out, b, b" [label=\"");
-    let d = put::shown(out, c, levels::title(table, k, titles), fenced);
+    let d = label::shown(out, c, levels::title(table, k, titles), fenced);
     put::bytes(out, d, b"\", ordering=\"out\"]")
 }
 

@@ -1,6 +1,6 @@
 // The graphs: the crate's own form and the fenced one.
 mod graph;
-mod put;
+mod label;
 
 pub use graph::tree_fmt_dot;
 pub use graph::tree_fmt_fenced;

@@ -22,7 +22,7 @@ fn wrong_depth(table: &[u32], k: usize) -> bool
     if d < 1 {
         return true;
     }
-    if 31 < d {
+    if rules::MOST_LEVELS <= d {
         return true;
     }
     table[3 * k - 3] < d - 1
@@ -82,7 +82,7 @@ fn bad_utf8(table: &[u32], nodes: usize, titles: &[u8]) -> usize
 {
     let mut k = 0;
     while k < nodes {
-        if !text::valid(title(table, k, titles)) {
+        if !utf8_valid::valid(title(table, k, titles)) {
             return k;
         }
         k += 1;

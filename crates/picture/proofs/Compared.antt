@@ -18,8 +18,8 @@ use Rattle.marks.proofs.Wired.{any-none}
 use Rattle.marks.proofs.Tests.{ordinary-plan, valid-title}
 use Rattle.marks.proofs.Accepted.{accept, compares}
 use Rattle.marks.proofs.Delivered.{drawn-wide}
-use Rattle.lay.specs.Spaced.{spaced}
-use Rattle.lay.proofs.Unspaced.{unspaced}
+use Rattle.picture_lay.specs.Spaced.{spaced}
+use Rattle.picture_lay.proofs.Unspaced.{unspaced}
 
 -- what the picture P shows at each point
 abbrev pub Shows : List Node → List ℕ → Type 0

@@ -33,9 +33,9 @@ use Rattle.marks.proofs.Tests.{Ordinary-plan, ordinary-plan, ordinary-laws, val
 use Rattle.marks.proofs.Picture.{Laid, laid, titles-held}
 use Rattle.marks.proofs.Delivered.{drawn-wide, drawn-high}
 use Rattle.marks.proofs.Reading.{Shown, Right-outside, getD-mem, framed, framed-left, framed-right, outside-is, top-is, band-is, found-is}
-use Rattle.sight.specs.Seen.{seen, leftSide, rightSide}
-use Rattle.sight.specs.Plan.{planSeen, cellsSeen}
-use Rattle.gather.specs.Gathered.{cellSeen, Misfit, many, untitled, long, beside, loose}
+use Rattle.picture_sight.specs.Seen.{seen, leftSide, rightSide}
+use Rattle.picture_sight.specs.Plan.{planSeen, cellsSeen}
+use Rattle.picture_gather.specs.Gathered.{cellSeen, Misfit, many, untitled, long, beside, loose}
 use Rattle.picture.proofs.OnCanvas.{seen-is}
 
 module _ (g : ℕ → ℕ → ℕ) (w h : ℕ) (c : Cell) where

@@ -11,10 +11,10 @@ use Rattle.rules.specs.Numbers.{readerNumber}
 use Rattle.rules.specs.Reader.{tableOf, titlesOf, delivered, writtenBy}
 use Rattle.rules.specs.declared.Reading.{Reading}
 use Rattle.rules.proofs.Candidate.{from, joined, lineAt}
-use Rattle.sight.specs.Seen.{seen}
-use Rattle.sight.specs.Plan.{planSeen}
+use Rattle.picture_sight.specs.Seen.{seen}
+use Rattle.picture_sight.specs.Plan.{planSeen}
 use Rattle.picture.specs.Standing.{Standing, Stands, Delivers}
-use Rattle.same.proofs.Tables.{length-table}
+use Rattle.picture_same.proofs.Tables.{length-table}
 use Rattle.picture.proofs.Titles.{titlesTo, titles-fit}
 
 module _ (cells : List ℕ) (w h nodes : ℕ) (table cy middle lines most : List ℕ) (gv : Standing cells w h nodes table cy middle lines most) (k : ℕ) (b : k < nodes) where

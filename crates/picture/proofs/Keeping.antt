@@ -16,16 +16,16 @@ use Rattle.rules.proofs.Candidate.{outside}
 use Rattle.levels.proofs.Plans.{count-whole, whole-count}
 use Rattle.levels.proofs.Tests.{depths-bytes}
 use Rattle.marks.specs.Numbers.{Pictured}
-use Rattle.sight.specs.Seen.{seen}
-use Rattle.sight.specs.Plan.{planSeen}
-use Rattle.gather.specs.Gathered.{Gathered}
-use Rattle.gather.proofs.Bounds.{row-within}
+use Rattle.picture_sight.specs.Seen.{seen}
+use Rattle.picture_sight.specs.Plan.{planSeen}
+use Rattle.picture_gather.specs.Gathered.{Gathered}
+use Rattle.picture_gather.proofs.Bounds.{row-within}
 use Rattle.tree_view.specs.Measured.{linesAt, longestAt}
 use Rattle.tree_view.proofs.Table.{cell-some, lines-cell, longest-cell}
 use Rattle.tree_view.proofs.Laid.{at-whole}
-use Rattle.same.specs.Given.{Given}
-use Rattle.same.proofs.Centres.{deep-seen}
-use Rattle.same.proofs.Tables.{length-table, depth-table, plan-table}
+use Rattle.picture_same.specs.Given.{Given}
+use Rattle.picture_same.proofs.Centres.{deep-seen}
+use Rattle.picture_same.proofs.Tables.{length-table, depth-table, plan-table}
 use Rattle.picture.specs.Standing.{Stands, Standing}
 use Rattle.picture.specs.Answered.{Picture, Kept, Accepted}
 use Rattle.picture.proofs.Titled.{gathered-ordinary}

@@ -10,11 +10,11 @@ use Rattle.rules.specs.Lines.{digits}
 use Rattle.rules.specs.Drawing.{boxes}
 use Rattle.rules.proofs.Candidate.{group, groups, marked, outside}
 use Rattle.levels.specs.Filled.{filled}
-use Rattle.sight.specs.Seen.{seen, bandSeen}
-use Rattle.sight.proofs.Seen.{seen-open}
-use Rattle.sight.proofs.Outsides.{rowAt, columnAt, rows-seen, columns-seen, row-seen, column-seen, band-seen}
-use Rattle.gather.specs.Known.{Known}
-use Rattle.gather.proofs.Bounds.{column-within, row-within}
+use Rattle.picture_sight.specs.Seen.{seen, bandSeen}
+use Rattle.picture_sight.proofs.Seen.{seen-open}
+use Rattle.picture_sight.proofs.Outsides.{rowAt, columnAt, rows-seen, columns-seen, row-seen, column-seen, band-seen}
+use Rattle.picture_gather.specs.Known.{Known}
+use Rattle.picture_gather.proofs.Bounds.{column-within, row-within}
 use Rattle.tree_view.proofs.Laid.{at-whole}
 use Rattle.picture.specs.Answered.{Picture}
 

@@ -10,7 +10,7 @@ use native.Mathlib.Omega.{arith}
 use lib.Dec.{leb}
 use lib.ListN.{length, getD, take, List·getD-eq-default}
 use borrow.Author.Tests.{lt-ltb, le-ltb}
-use Rattle.lay.proofs.Seen as L
+use Rattle.picture_lay.proofs.Seen as L
 use Rattle.rules.specs.Base.{pick, greatest}
 use Rattle.rules.specs.Utf8.{valid, points}
 use Rattle.rules.specs.Plan.{mostCells}
@@ -23,10 +23,10 @@ use Rattle.rules.proofs.Candidate.{at, candidate, planFound}
 use Rattle.marks.proofs.Reading.{getD-mem}
 use Rattle.marks.proofs.Text.{Held}
 use Rattle.marks.proofs.Titles.{line-mem}
-use Rattle.lay.proofs.Pictures.{body-valid}
-use Rattle.lay.proofs.Refusals.{roomy}
-use Rattle.sight.specs.Seen.{seen}
-use Rattle.sight.specs.Plan.{planSeen}
+use Rattle.picture_lay.proofs.Pictures.{body-valid}
+use Rattle.picture_lay.proofs.Refusals.{roomy}
+use Rattle.picture_sight.specs.Seen.{seen}
+use Rattle.picture_sight.specs.Plan.{planSeen}
 
 -- what has been tested
 pub placed-valid : (P : List ℕ) (cells : ℕ) → placed P cells ≡ true → (valid P ≡ true) × (ended P ≡ true)

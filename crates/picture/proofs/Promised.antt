@@ -17,9 +17,9 @@ use Rattle.rules.specs.declared.Reading.{Reading}
 use Rattle.rules.proofs.Candidate.{reads}
 use Rattle.rules.proofs.Lines.{linesOf-some}
 use Rattle.marks.proofs.Reader.{reads-right-boxes}
-use Rattle.lay.specs.Started.{Started}
-use Rattle.lay.proofs.Refusals.{reading-started, passed, stopped, put-there, not-there}
-use Rattle.sight.specs.Plan.{planSeen}
+use Rattle.picture_lay.specs.Started.{Started}
+use Rattle.picture_lay.proofs.Refusals.{reading-started, passed, stopped, put-there, not-there}
+use Rattle.picture_sight.specs.Plan.{planSeen}
 use Rattle.picture.specs.Answered.{Picture, Answered, refused, accepted}
 use Rattle.picture.proofs.OnCanvas.{held-cells, cells-there, cells-few}
 use Rattle.picture.proofs.Theorems.{accepted-is-drawn, undrawn-is-none, spaced-is-none, empty-is-none}

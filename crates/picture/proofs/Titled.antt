@@ -23,13 +23,13 @@ use Rattle.rules.proofs.Candidate.{from, trim, joined, lineAt, outside}
 use Rattle.marks.specs.Numbers.{Pictured}
 use Rattle.marks.proofs.Accepted.{trim-unspaced}
 use Rattle.marks.proofs.Text.{Held, trim-mem}
-use Rattle.lay.proofs.Unspaced.{ends-points}
-use Rattle.sight.specs.Seen.{seen}
-use Rattle.sight.specs.Plan.{planSeen}
-use Rattle.sight.proofs.Seen.{seen-all}
-use Rattle.sight.proofs.Split.{map-all}
-use Rattle.gather.specs.Gathered.{Gathered}
-use Rattle.same.proofs.Letters.{line-points, block, block-split}
+use Rattle.picture_lay.proofs.Unspaced.{ends-points}
+use Rattle.picture_sight.specs.Seen.{seen}
+use Rattle.picture_sight.specs.Plan.{planSeen}
+use Rattle.picture_sight.proofs.Seen.{seen-all}
+use Rattle.picture_sight.proofs.Split.{map-all}
+use Rattle.picture_gather.specs.Gathered.{Gathered}
+use Rattle.picture_same.proofs.Letters.{line-points, block, block-split}
 
 every-of : {A : Type 0} (t : A → Bool) (l : List A) → ((a : A) → List·Memᴰ a l → t a ≡ true) → every t l ≡ true
 unfolding every

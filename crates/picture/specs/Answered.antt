@@ -13,9 +13,9 @@ use Rattle.rules.specs.declared.Reading.{Reading}
 use Rattle.rules.proofs.Candidate.{outside}
 use Rattle.marks.specs.Numbers.{Pictured}
 use Rattle.marks.proofs.Text.{Held}
-use Rattle.sight.specs.Seen.{seen}
-use Rattle.sight.specs.Plan.{planSeen}
-use Rattle.gather.specs.Gathered.{Gathered, Misfit}
+use Rattle.picture_sight.specs.Seen.{seen}
+use Rattle.picture_sight.specs.Plan.{planSeen}
+use Rattle.picture_gather.specs.Gathered.{Gathered, Misfit}
 use Rattle.picture.specs.Standing.{Delivers}
 
 -- the cells hold a picture: code points that a text can hold

@@ -8,8 +8,8 @@ use Rattle.rules.specs.Plan.{Node, nodeAt}
 use Rattle.rules.specs.Reader.{tableOf, titlesOf, plan, delivered, writtenBy}
 use Rattle.rules.specs.declared.Reading.{Reading}
 use Rattle.rules.proofs.Candidate.{from, joined, lineAt}
-use Rattle.sight.specs.Seen.{seen}
-use Rattle.sight.specs.Plan.{planSeen}
+use Rattle.picture_sight.specs.Seen.{seen}
+use Rattle.picture_sight.specs.Plan.{planSeen}
 
 -- a title of n lines, the longest of t bytes, at the centres cx and cy, the latter that of row i
 pub record Stands (g : ℕ → ℕ → ℕ) (i cy cx n t : ℕ) (title : List ℕ) : Type 0 where

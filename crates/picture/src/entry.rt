@@ -10,7 +10,7 @@ pub fn read(picture: &[u8], canvas: &mut [u32], table: &mut [u32], titles: &mut 
     ensures { λ r. ⌜ Reads length boxes (now (picture .entry)) (now (canvas .entry)) (now (table .entry)) (now (titles .entry)) r
         (now (canvas .exit)) (now (table .exit)) (now (titles .exit)) ⌝ }
 {
-    let p = lay::start(picture, canvas);
+    let p = picture_lay::start(picture, canvas);
     let answer = p.answer;
     if 0 < rules::reading_number(answer) {
         return answer;

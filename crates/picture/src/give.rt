@@ -4,7 +4,7 @@ ghost use Prim.Native.Nat.{ℕ, _≤_, _<_, _*_};
 ghost use lib.ListN.{length, getD};
 ghost use Rattle.rules.specs.Base.{laid};
 ghost use Rattle.rules.specs.Reader.{titlesOf};
-ghost use Rattle.sight.specs.Plan.{planSeen};
+ghost use Rattle.picture_sight.specs.Plan.{planSeen};
 ghost use Rattle.picture.specs.Standing.{Standing, Delivers};
 use rules::Reading;
 
@@ -47,7 +47,7 @@ fn give_titles(
         let t = longest[k];
         let x = middle[k] - tree_view::half_up(t);
         let y = cy[i] - n / 2;
-        at = sight::write_block(cells, width, height, x, y, t, n, out, at);
+        at = picture_sight::write_block(cells, width, height, x, y, t, n, out, at);
         k += 1;
     }
 }

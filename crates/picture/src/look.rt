@@ -1,8 +1,8 @@
 // The plan that is seen in a picture on lent cells.
 ghost use mathlib.Core.Path.{_≡_};
 ghost use Rattle.rules.proofs.Candidate.{outside};
-ghost use Rattle.sight.specs.Seen.{seen};
-ghost use Rattle.gather.specs.Known.{Known};
+ghost use Rattle.picture_sight.specs.Seen.{seen};
+ghost use Rattle.picture_gather.specs.Known.{Known};
 ghost use Rattle.picture.specs.Answered.{Picture, Answered};
 use crate::tell::tell;
 use rules::Reading;
@@ -29,7 +29,7 @@ fn inside(
     let mut middle = [0u32; 256];
     let mut lines = [0u32; 256];
     let mut longest = [0u32; 256];
-    let c = gather::gather(
+    let c = picture_gather::gather(
         cells,
         width,
         height,
@@ -78,10 +78,10 @@ pub(crate) fn look(
     let mut cx = [0u32; 257];
     let mut cy = [0u32; 33];
     let mut band = [0u32; 33];
-    let x = sight::margin(cells, width, height);
-    let nrows = sight::seen_rows(cells, width, height, x, &mut cy);
-    let ncols = sight::seen_columns(cells, width, height, &mut cx);
-    sight::bands(cells, width, height, &cx, ncols, &cy, nrows, &mut band);
+    let x = picture_sight::margin(cells, width, height);
+    let nrows = picture_sight::seen_rows(cells, width, height, x, &mut cy);
+    let ncols = picture_sight::seen_columns(cells, width, height, &mut cx);
+    picture_sight::bands(cells, width, height, &cx, ncols, &cy, nrows, &mut band);
     inside(
         cells,
         width,

@@ -28,7 +28,7 @@ pub(crate) fn tell(
     if levels::bad_depth(found, nodes) < nodes {
         return Reading::Undrawn;
     }
-    if same::same(
+    if picture_same::same(
         cells,
         width,
         height,

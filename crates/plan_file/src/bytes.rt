@@ -57,7 +57,7 @@ fn ends_in_tree(file: &[u8]) -> bool
 }
 
 // The file form is not broken.
-pub fn formed(file: &[u8]) -> bool
+pub(crate) fn formed(file: &[u8]) -> bool
     ensures { λ r. ⌜ r ≡ File·formed (now (file .entry)) ⌝ }
 {
     if !ends_in_tree(file) {

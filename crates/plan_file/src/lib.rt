@@ -1,8 +1,9 @@
 // The file form: titles, the table as u32 little-endian, and a 12-byte trailer that points back.
 mod bytes;
 mod draw;
+mod print;
 
-pub use bytes::formed;
 pub use bytes::word;
 pub use bytes::words;
 pub use draw::draw_file;
+pub use print::treetext;

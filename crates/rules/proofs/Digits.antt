@@ -2,7 +2,7 @@
 -- to recurse by; any bound from n on gives the same, so the laws here have none. Fewer digits for smaller numbers, each a byte 0 to 9.
 use mathlib.Core.Path.{_≡_, ap, sym, _∙_}
 use mathlib.Core.List.{List, [], _∷_, _++_}
-use Prim.Native.Nat.{ℕ, suc, zero, _+_, _/_, _%_, _≤_, _<_}
+use Prim.Native.Nat.{ℕ, suc, zero, _+_, _/_, _%_, _^_, _≤_, _<_}
 use native.Mathlib.Nat.{not-suc-le-zero}
 use native.Mathlib.Decide.{decLe}
 use native.Mathlib.Omega.{arith}
@@ -82,19 +82,6 @@ digits-some n =
       | no b ↦ rw (digitsIn-small n n (omega arith)) (omega arith)
     ]
 
-pub digits-few : (n : ℕ) → n < 1000 → length (digits n) ≤ 3
-digits-few n h =
-    rw (digits-by 999 n (omega arith))
-    (elim (decLe 10 n) [
-      | yes a ↦
-          rw (digitsIn-more 999 n a, length-append)
-          (elim (decLe 10 (n / 10)) [
-            | yes b ↦ rw (digitsIn-more 998 (n / 10) b, length-append, digitsIn-small 997 (n / 10 / 10) (omega arith)) (omega arith)
-            | no b ↦ rw (digitsIn-small 998 (n / 10) (omega arith)) (omega arith)
-          ])
-      | no a ↦ rw (digitsIn-small 999 n (omega arith)) (omega arith)
-    ])
-
 -- the digits without their bound
 pub digits-one : (n : ℕ) → n < 10 → digits n ≡ (48 + n) ∷ []
 unfolding digits
@@ -108,6 +95,23 @@ digits-more n h =
 
 pub length-more : (n : ℕ) → 10 ≤ n → length (digits n) ≡ length (digits (n / 10)) + 1
 length-more n h = ap length (digits-more n h) ∙ length-append (digits (n / 10)) ((48 + n % 10) ∷ [])
+
+-- a number below the power has at most as many digits
+pub digits-within : (k n : ℕ) → n < 10 ^ suc k → length (digits n) ≤ suc k
+digits-within zero n h = rw (digits-one n h) (omega arith)
+digits-within (suc k) n h =
+    elim (decLe 10 n) [
+      | yes a ↦
+          (let q : n / 10 < 10 ^ suc k = omega arith in
+          omega (arith, length-more n a, digits-within k (n / 10) q))
+      | no a ↦ rw (digits-one n (omega arith)) (omega arith)
+    ]
+
+pub digits-few : (n : ℕ) → n < 1000 → length (digits n) ≤ 3
+digits-few n h = digits-within 2 n h
+
+pub digits-short : (n : ℕ) → n < 2 ^ 64 → length (digits n) ≤ 20
+digits-short n h = digits-within 19 n (omega arith)
 
 -- the last digit, and those before it
 pub last-digit : (n k : ℕ) → length (digits n) ≡ k + 1 → getD (digits n) k 0 ≡ 48 + n % 10

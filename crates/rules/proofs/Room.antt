@@ -1,6 +1,6 @@
--- What is done fits the room: number 0 is given only where its bytes are at most those that were lent. Every other case of
--- the rules' chain of tests is a refusal, and the last one is this test.
-use mathlib.Core.Path.{_≡_}
+-- What is done fits the room, and its second number is the text's length: number 0 is given only where its bytes are at most those
+-- that were lent. Every other case of the rules' chain of tests is a refusal, and the last one is this test.
+use mathlib.Core.Path.{_≡_, refl}
 use mathlib.Core.List.{List}
 use mathlib.Core.Bool.{Bool, true, false}
 use Prim.Native.Nat.{ℕ, _≤_}
@@ -9,71 +9,96 @@ use native.Mathlib.Omega.{arith}
 use lib.ListN.{length}
 use borrow.Author.Tests.{le-ltb, lt-ltb}
 use Rattle.rules.specs.Base.{pick}
+use Rattle.rules.specs.Plan.{planOf}
 use Rattle.rules.specs.Numbers.{number, second, firstSuch, afterCount, afterNodes}
-use Rattle.rules.specs.Drawing.{Marks, boxes}
+use Rattle.rules.specs.Drawing.{Marks, boxes, text}
 use Rattle.rules.specs.Answers.{afterCells, inRoom, answer, drawing, graphAnswer}
 use Rattle.rules.specs.File.{formed, tableIn, titlesIn, fileDrawing}
-use Rattle.rules.specs.Graph.{Form}
+use Rattle.rules.specs.Graph.{Form, graph}
 use Rattle.rules.specs.declared.Answer.{Answer}
 use Rattle.rules.specs.declared.Drawing.{Drawing}
 
--- where it is done, its bytes fit
+abbrev Within : ℕ → ℕ → Type 0
+Within room n = n ≤ room
+
+-- where it is done, Q holds of its bytes
+abbrev Done : (ℕ → Type 0) → Answer → Type 0
+Done Q a = number a ≡ 0 → Q (second a)
+
+-- in particular, they fit
 abbrev Fits : ℕ → Answer → Type 0
-Fits room a = number a ≡ 0 → second a ≤ room
+Fits room = Done (Within room)
 
-either : (room : ℕ) (b : Bool) (x y : Answer) → Fits room x → Fits room y → Fits room (pick b x y)
-unfolding pick
-either room true x y f g = f
-either room false x y f g = g
+module _ (Q : ℕ → Type 0) where
+  either : (b : Bool) (x y : Answer) → Done Q x → Done Q y → Done Q (pick b x y)
+  unfolding pick
+  either true x y f g = f
+  either false x y f g = g
 
--- a refusal is not done
-refusal : (room : ℕ) (a : Answer) → (number a ≡ 0 → ⊥) → Fits room a
-refusal room a f e = absurd (f e)
+  -- a refusal is not done
+  refusal : (a : Answer) → (number a ≡ 0 → ⊥) → Done Q a
+  refusal a f e = absurd (f e)
 
-module _ (room : ℕ) where
   among : (t : ℕ → Bool) (n : ℕ) (at : ℕ → Answer) (next : Answer)
-      → ((k : ℕ) → number (at k) ≡ 0 → ⊥) → Fits room next → Fits room (firstSuch t n at next)
+      → ((k : ℕ) → number (at k) ≡ 0 → ⊥) → Done Q next → Done Q (firstSuch t n at next)
   unfolding firstSuch
-  among t n at next f g = either room _ _ _ (refusal room _ (f _)) g
+  among t n at next f g = either _ _ _ (refusal _ (f _)) g
 
-  nodes : (T B : List ℕ) (next : Answer) → Fits room next → Fits room (afterNodes T B next)
+  nodes : (T B : List ℕ) (next : Answer) → Done Q next → Done Q (afterNodes T B next)
   unfolding afterNodes number
   nodes T B next f =
       among _ _ Answer.Depth _ (λ k e. omega arith)
       (among _ _ Answer.Title _ (λ k e. omega arith)
       (among _ _ Answer.Utf8 _ (λ k e. omega arith) f))
 
-  counted : (T : List ℕ) (next : Answer) → Fits room next → Fits room (afterCount T next)
+  counted : (T : List ℕ) (next : Answer) → Done Q next → Done Q (afterCount T next)
   unfolding afterCount number
-  counted T next f = either room _ _ _ (λ e. absurd (omega arith)) (either room _ _ _ (λ e. absurd (omega arith)) f)
+  counted T next f = either _ _ _ (λ e. absurd (omega arith)) (either _ _ _ (λ e. absurd (omega arith)) f)
 
-  last : (needed : ℕ) → Fits room (inRoom room needed)
+  last : (room needed : ℕ) → (needed ≤ room → Q needed) → Done Q (inRoom room needed)
   unfolding inRoom pick number second
-  last needed =
+  last room needed q =
       elim (decLe needed room) [
-        | yes l ↦ rw (le-ltb room needed l) (λ e. l)
+        | yes l ↦ rw (le-ltb room needed l) (λ e. q l)
         | no l ↦ rw (lt-ltb room needed (omega arith)) (λ e. absurd (omega arith))
       ]
 
-  pub answer-fits : (len : List ℕ → ℕ) (marks : Marks) (T B : List ℕ) (cells : ℕ) → Fits room (answer len marks T B cells room)
+  answer-done : (len : List ℕ → ℕ) (marks : Marks) (T B : List ℕ) (cells room : ℕ)
+      → (length (text len marks (planOf T B)) ≤ room → Q (length (text len marks (planOf T B)))) → Done Q (answer len marks T B cells room)
   unfolding answer afterCells number
-  answer-fits len marks T B cells =
+  answer-done len marks T B cells room q =
       counted T _
-      (either room _ _ _ (λ e. absurd (omega arith))
+      (either _ _ _ (λ e. absurd (omega arith))
       (nodes T B _
-      (either room _ _ _ (λ e. absurd (omega arith))
-      (either room _ _ _ (λ e. absurd (omega arith))
-      (last _)))))
+      (either _ _ _ (λ e. absurd (omega arith))
+      (either _ _ _ (λ e. absurd (omega arith))
+      (last room _ q)))))
 
-  pub graph-fits : (form : Form) (T B : List ℕ) → Fits room (graphAnswer form T B room)
-  unfolding graphAnswer
-  graph-fits form T B = counted T _ (nodes T B _ (last _))
-
-  chosen : (b : Bool) (d e : Drawing) → Fits room (d .answer) → Fits room (e .answer) → Fits room (pick b d e .answer)
+  chosen : (b : Bool) (d e : Drawing) → Done Q (d .answer) → Done Q (e .answer) → Done Q (pick b d e .answer)
   unfolding pick
   chosen true d e f g = f
   chosen false d e f g = g
 
-  pub file-fits : (F : List ℕ) (cells : ℕ) → Fits room (fileDrawing F cells room .answer)
+  file-done : (F : List ℕ) (cells room : ℕ)
+      → (length (text length boxes (planOf (tableIn F) (titlesIn F))) ≤ room → Q (length (text length boxes (planOf (tableIn F) (titlesIn F)))))
+      → Done Q (fileDrawing F cells room .answer)
   unfolding fileDrawing drawing number
-  file-fits F cells = chosen (formed F) _ _ (answer-fits length boxes (tableIn F) (titlesIn F) cells) (λ e. absurd (omega arith))
+  file-done F cells room q = chosen (formed F) _ _ (answer-done length boxes (tableIn F) (titlesIn F) cells room q) (λ e. absurd (omega arith))
+
+module _ (room : ℕ) where
+  pub answer-fits : (len : List ℕ → ℕ) (marks : Marks) (T B : List ℕ) (cells : ℕ) → Fits room (answer len marks T B cells room)
+  answer-fits len marks T B cells = answer-done (Within room) len marks T B cells room (λ l. l)
+
+  pub graph-fits : (form : Form) (T B : List ℕ) → Fits room (graphAnswer form T B room)
+  unfolding graphAnswer
+  graph-fits form T B = counted (Within room) T _ (nodes (Within room) T B _ (last (Within room) room _ (λ l. l)))
+
+  pub file-fits : (F : List ℕ) (cells : ℕ) → Fits room (fileDrawing F cells room .answer)
+  file-fits F cells = file-done (Within room) F cells room (λ l. l)
+
+-- a file's drawing that is done tells the length of its text
+abbrev Length : List ℕ → ℕ → Type 0
+Length F n = n ≡ length (text length boxes (planOf (tableIn F) (titlesIn F)))
+
+pub file-tells : (F : List ℕ) (cells room : ℕ) → Done (Length F) (fileDrawing F cells room .answer)
+file-tells F cells room = file-done (Length F) F cells room (λ l. refl)

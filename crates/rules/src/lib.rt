@@ -9,7 +9,7 @@ pub use numbers::second;
 
 pub const MOST_NODES: usize = 256;
 
-pub const MOST_LEVELS: usize = 32;
+pub const MOST_LEVELS: u32 = 32;
 
 pub const MOST_TITLE: usize = 1024;
 

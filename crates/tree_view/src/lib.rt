@@ -1,6 +1,5 @@
 // Rows, columns, boxes and the canvas' size.
 mod cell;
-mod children;
 mod heights;
 mod lines;
 mod size;
@@ -11,8 +10,6 @@ pub use cell::bottom_of;
 pub use cell::frame_of;
 pub use cell::half_up;
 pub use cell::top_of;
-pub use children::Child;
-pub use children::children_columns;
 pub use heights::Rows;
 pub use heights::canvas_height;
 pub use heights::row_centers;
@@ -20,7 +17,6 @@ pub use heights::tree_rows;
 pub use lines::measures;
 pub use size::area;
 pub use size::index_digits;
-pub use size::large;
 pub use widths::Columns;
 pub use widths::canvas_width;
 pub use widths::middles;

@@ -1,10 +1,8 @@
 // The digits beside the rows, and the canvas' cells.
 ghost use mathlib.Core.Path.{_≡_};
 ghost use Prim.Native.Nat.{_-_, _*_, _≤_, _<_};
-ghost use lib.Dec.{ltb};
 ghost use lib.ListN.{length};
 ghost use Rattle.rules.specs.Lines.{digits};
-ghost use Rattle.rules.specs.Plan.{mostCells};
 
 // The digits of the last of `rows` rows' index.
 pub fn index_digits(rows: u32) -> u32
@@ -19,11 +17,4 @@ pub fn area(width: u32, height: u32) -> usize
     ensures { λ r. ⌜ r ≡ width * height ⌝ }
 {
     text::wide(width) * text::wide(height)
-}
-
-// More cells than a canvas may have.
-pub fn large(width: u32, height: u32) -> bool
-    ensures { λ r. ⌜ r ≡ ltb mostCells (width * height) ⌝ }
-{
-    rules::MOST_CELLS < area(width, height)
 }

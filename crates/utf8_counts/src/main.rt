@@ -16,7 +16,7 @@ fn one(a: u8, b: u8, c: u8, d: u8, from: usize) -> u32
     ensures { λ r. ⌜ r ≤ 1 ⌝ }
 {
     let s = [a, b, c, d];
-    if text::valid(&s[from..]) {
+    if utf8_valid::valid(&s[from..]) {
         return 1;
     }
     0
@@ -69,10 +69,10 @@ fn kept(v: u32) -> u32
     ensures { λ r. ⌜ r ≤ 1 ⌝ }
 {
     let mut s = [0u8; 4];
-    let n = text::encode(v, &mut s, 0);
+    let n = utf8::encode(v, &mut s, 0);
     let bytes = &s[..n];
-    if text::valid(bytes) {
-        let p = text::decode(bytes);
+    if utf8_valid::valid(bytes) {
+        let p = utf8::decode(bytes);
         if p.value == v {
             if p.size == n {
                 return 1;

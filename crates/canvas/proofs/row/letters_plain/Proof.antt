@@ -7,7 +7,7 @@ use native.Mathlib.Nat.{add-zero}
 use native.Mathlib.Omega.{arith}
 use lib.ListN.{length, getD, drop, length-set, drop-of-length-le}
 use lib.Seq.{sets, drop-cons}
-use Rattle.text.proofs.Ascii.{plain-points}
+use Rattle.utf8.proofs.Ascii.{plain-points}
 use Rattle.canvas.proofs.Runs.{mark-stored, marks-ended}
 use borrow.Author.Needs.{needs}
 use Rattle.canvas.proofs.row.letters_plain.Statement.{statement}

@@ -7,7 +7,7 @@ plain-requires : tie.Need-plain-requires
 plain-requires c κs = search needs
 
 letters-plain-requires : tie.Need-letters-plain-requires
-letters-plain-requires c κs = (c .before .before .plain .ensures (c .before .if1 .taken), search needs)
+letters-plain-requires c κs = (c .before .before .plain .ensures .0 (c .before .if1 .taken), search needs)
 
 same-length : tie.Need-same-length
 same-length c = search needs

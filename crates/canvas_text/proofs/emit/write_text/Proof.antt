@@ -6,10 +6,11 @@ use lib.ListN.{length, length-append}
 use lib.Seq.{sets}
 use Rattle.rules.specs.Base.{each}
 use Rattle.rules.specs.Drawing.{textOf, rowText}
+use Rattle.rules.proofs.Lists.{laid-sets}
 use Rattle.canvas_text.specs.Emit.{cellsOf}
 use Rattle.canvas_text.proofs.EmitRow.{stored}
 use Rattle.canvas.proofs.Lent.{row-fits}
-use Rattle.canvas_text.proofs.EmitText.{lent-text, lent-below, text-next, text-room, laid-sets}
+use Rattle.canvas_text.proofs.EmitText.{lent-text, lent-below, text-next, text-room}
 use borrow.Author.Needs.{needs}
 use Rattle.canvas_text.proofs.emit.write_text.Statement.{statement}
 use Rattle.canvas_text.proofs.emit.write_text.Tie as tie

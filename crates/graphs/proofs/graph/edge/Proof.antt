@@ -3,7 +3,7 @@ use borrow.Author.Needs.{needs}
 use native.Mathlib.Omega.{arith}
 use Rattle.graphs.specs.Forms.{formOf}
 use Rattle.graphs.specs.Entries.{spotIn}
-use Rattle.graphs.proofs.Puts.{then}
+use Rattle.put.proofs.Puts.{then}
 use Rattle.graphs.proofs.Entries.{edge-parts, length-edge}
 use Rattle.graphs.proofs.graph.edge.Statement.{statement}
 use Rattle.graphs.proofs.graph.edge.Tie as tie

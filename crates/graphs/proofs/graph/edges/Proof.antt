@@ -6,7 +6,7 @@ use Rattle.rules.specs.Plan.{depthIn}
 use Rattle.levels.specs.Cells.{previousCell}
 use Rattle.graphs.specs.Forms.{formOf}
 use Rattle.graphs.specs.Entries.{edgeIn, edgesIn, backward}
-use Rattle.graphs.proofs.Puts.{Left, all, step, fits, end}
+use Rattle.put.proofs.Puts.{Left, all, step, fits, end}
 use Rattle.graphs.proofs.Backward.{onward, met, edges-some, edges-none}
 use Rattle.graphs.proofs.graph.edges.Statement.{statement}
 use Rattle.graphs.proofs.graph.edges.Tie as tie

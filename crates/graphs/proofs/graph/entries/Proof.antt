@@ -7,10 +7,10 @@ use Rattle.rules.specs.Base.{concat}
 use Rattle.rules.specs.Plan.{planOf}
 use Rattle.rules.specs.Levels.{view}
 use Rattle.levels.proofs.Accepted.{depth-small}
-use Rattle.graphs.specs.Put.{Put}
+use Rattle.put.specs.Put.{Put}
 use Rattle.graphs.specs.Forms.{formOf}
 use Rattle.graphs.specs.Entries.{lead, entriesIn}
-use Rattle.graphs.proofs.Puts.{idle, then, put-length}
+use Rattle.put.proofs.Puts.{idle, then, put-length}
 use Rattle.graphs.proofs.AllRows.{no-rows, one-row-more, row-fits, rows-view}
 use Rattle.graphs.proofs.graph.entries.Statement.{statement}
 use Rattle.graphs.proofs.graph.entries.Tie as tie

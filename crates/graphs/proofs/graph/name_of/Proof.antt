@@ -3,7 +3,7 @@ use borrow.Author.Needs.{needs}
 use Rattle.rules.specs.Graph.{name}
 use Rattle.graphs.specs.Forms.{formOf}
 use Rattle.graphs.specs.Entries.{spotIn}
-use Rattle.graphs.proofs.Puts.{room}
+use Rattle.put.proofs.Puts.{room}
 use Rattle.graphs.proofs.Entries.{row-small, column-small, name-read}
 use Rattle.graphs.proofs.graph.name_of.Statement.{statement}
 use Rattle.graphs.proofs.graph.name_of.Tie as tie

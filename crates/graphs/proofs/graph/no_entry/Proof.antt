@@ -1,6 +1,6 @@
 -- The two cases of the gap.
 use borrow.Author.Needs.{needs}
-use Rattle.graphs.proofs.Puts.{idle}
+use Rattle.put.proofs.Puts.{idle}
 use Rattle.graphs.proofs.Joined.{gap-some, gap-none}
 use Rattle.graphs.proofs.graph.no_entry.Statement.{statement}
 use Rattle.graphs.proofs.graph.no_entry.Tie as tie

@@ -6,7 +6,7 @@ use lib.ListN.{length}
 use Rattle.rules.specs.Base.{concat}
 use Rattle.levels.proofs.Accepted.{title-fits, node-fits}
 use Rattle.graphs.specs.Forms.{formOf}
-use Rattle.graphs.proofs.Puts.{then}
+use Rattle.put.proofs.Puts.{then}
 use Rattle.graphs.proofs.Entries.{node-read, length-read}
 use Rattle.graphs.proofs.graph.node.Statement.{statement}
 use Rattle.graphs.proofs.graph.node.Tie as tie

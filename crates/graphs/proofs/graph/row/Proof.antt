@@ -10,7 +10,7 @@ use Rattle.rules.specs.Plan.{depthIn, planOf}
 use Rattle.levels.specs.Cells.{cellIn}
 use Rattle.graphs.specs.Forms.{formOf}
 use Rattle.graphs.specs.Entries.{lead, edgesIn, nodeIn, backward, rowEntries}
-use Rattle.graphs.proofs.Puts.{Left, all, step, fits, end}
+use Rattle.put.proofs.Puts.{Left, all, step, fits, end}
 use Rattle.graphs.proofs.Rows.{rowFrom, row-whole, reached, row-turn, row-out}
 use Rattle.graphs.proofs.graph.row.Statement.{statement}
 use Rattle.graphs.proofs.graph.row.Tie as tie

@@ -2,7 +2,7 @@
 use mathlib.Core.Path.{ap}
 use native.Mathlib.Omega.{arith}
 use lib.ListN.{length}
-use Rattle.sight.specs.Plan.{planSeen}
+use Rattle.picture_sight.specs.Plan.{planSeen}
 use Rattle.picture.proofs.Giving.{no-table, no-titles, all-given}
 use borrow.Author.Needs.{needs}
 use Rattle.picture.proofs.give.deliver.Statement.{statement}

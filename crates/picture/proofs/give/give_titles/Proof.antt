@@ -5,7 +5,7 @@ use native.Mathlib.Omega.{arith}
 use lib.ListN.{length, length-append}
 use lib.Seq.{sets, length-sets}
 use Rattle.rules.specs.Plan.{nodeAt}
-use Rattle.sight.specs.Plan.{planSeen}
+use Rattle.picture_sight.specs.Plan.{planSeen}
 use Rattle.picture.proofs.Titles.{titlesTo, titles-none, titles-more}
 use Rattle.picture.proofs.Giving.{entry-in, fits-at, stands-at, block-at}
 use Rattle.picture.proofs.Stored.{stored-title, stored-titles}

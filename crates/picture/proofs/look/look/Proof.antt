@@ -1,6 +1,6 @@
 -- What is seen of the outside is known, and the inside told by it.
 use native.Mathlib.Omega.{arith}
-use Rattle.sight.specs.Seen.{seen}
+use Rattle.picture_sight.specs.Seen.{seen}
 use Rattle.picture.proofs.Looking.{rows-most, columns-most, rows-known, columns-known, rows-low, known}
 use borrow.Author.Needs.{needs}
 use Rattle.picture.proofs.look.look.Statement.{statement}

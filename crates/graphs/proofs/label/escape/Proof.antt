@@ -1,0 +1,64 @@
+-- Each branch is one case of the rule.
+use borrow.Author.Needs.{needs}
+use mathlib.Core.List.{[], _∷_}
+use Rattle.rules.specs.Graph.{escaped}
+use Rattle.put.proofs.Puts.{room}
+use Rattle.graphs.proofs.Escapes.{quote, line, other}
+use Rattle.graphs.proofs.label.escape.Statement.{statement}
+use Rattle.graphs.proofs.label.escape.Tie as tie
+
+slice-aggregate-bytes : tie.Need-slice-aggregate-bytes
+slice-aggregate-bytes c = search needs
+
+bytes-requires : tie.Need-bytes-requires
+bytes-requires c κs =
+    let s = c .before .before .before .before in
+    room (escaped (s .args .b)) (92 ∷ 34 ∷ []) (s .args .at) (quote (s .args .b) (search needs)) (s .pre)
+
+same-length : tie.Need-same-length
+same-length c = search needs
+
+returns : tie.Need-returns
+returns c = rw (quote (c .before .before .before .before .before .before .before .args .b) (search needs)) (c .before .before .bytes .ensures)
+
+slice-aggregate-bytes-2 : tie.Need-slice-aggregate-bytes-2
+slice-aggregate-bytes-2 c = search needs
+
+bytes-requires-2 : tie.Need-bytes-requires-2
+bytes-requires-2 c κs =
+    let s = c .before .before .before .before .before in
+    room (escaped (s .args .b)) (92 ∷ 110 ∷ []) (s .args .at) (line (s .args .b) (search needs) (search needs)) (s .pre)
+
+same-length-2 : tie.Need-same-length-2
+same-length-2 c = search needs
+
+returns-2 : tie.Need-returns-2
+returns-2 c =
+    rw (line (c .before .before .before .before .before .before .before .before .args .b) (search needs) (search needs)) (c .before .before .bytes2 .ensures)
+
+byte-requires : tie.Need-byte-requires
+byte-requires c κs =
+    let s = c .before .before .before .before in
+    room (escaped (s .args .b)) (s .args .b ∷ []) (s .args .at) (other (s .args .b) (search needs) (search needs)) (s .pre)
+
+same-length-3 : tie.Need-same-length-3
+same-length-3 c = search needs
+
+returns-3 : tie.Need-returns-3
+returns-3 c = rw (other (c .before .before .before .before .before .before .before .args .b) (search needs) (search needs)) (c .before .before .byte .ensures)
+
+pub escape-spec : {M : Type 1} → statement M
+escape-spec =
+    tie.close
+    (tie.spec
+    slice-aggregate-bytes
+    bytes-requires
+    same-length
+    returns
+    slice-aggregate-bytes-2
+    bytes-requires-2
+    same-length-2
+    returns-2
+    byte-requires
+    same-length-3
+    returns-3)

@@ -1,0 +1,53 @@
+-- The four pieces are the name by its parts; each fits because the name does.
+use borrow.Author.Needs.{needs}
+use native.Mathlib.Omega.{arith}
+use Rattle.graphs.specs.Forms.{formOf, spot}
+use Rattle.put.proofs.Puts.{then}
+use Rattle.graphs.proofs.Names.{name-parts, length-name}
+use Rattle.graphs.proofs.label.name.Statement.{statement}
+use Rattle.graphs.proofs.label.name.Tie as tie
+
+byte-requires : tie.Need-byte-requires
+byte-requires c κs = let s = c .before .before in omega (arith, s .pre .2, length-name (formOf (s .args .fenced)) (spot (s .args .i) (s .args .j)))
+
+decimal-requires : tie.Need-decimal-requires
+decimal-requires c κs = (
+  search needs,
+  let s = c .before .before .before .before .before .before in omega (
+    arith,
+    s .pre .2,
+    length-name (formOf (s .args .fenced)) (spot (s .args .i) (s .args .j)),
+  ),
+)
+
+between-requires : tie.Need-between-requires
+between-requires c κs =
+    let s = c .before .before .before .before .before .before .before .before .before .before in
+    omega (arith, s .pre .2, length-name (formOf (s .args .fenced)) (spot (s .args .i) (s .args .j)))
+
+decimal-requires-2 : tie.Need-decimal-requires-2
+decimal-requires-2 c κs =
+    let s = c .before .before .before .before .before .before .before .before .before .before .before .before .before .before in
+    (search needs, omega (arith, s .pre .2, length-name (formOf (s .args .fenced)) (spot (s .args .i) (s .args .j))))
+
+same-length : tie.Need-same-length
+same-length c = search needs
+
+returns : tie.Need-returns
+returns c =
+    let s = c .before .before .before .before .before .before .before .before .before .before .before .before .before .before .before .before .before .args in
+    let n = c .before .before .before .before .before .before .before .before .before .before .before .before .before .before .byte .ensures in
+    let i = c .before .before .before .before .before .before .before .before .before .before .decimal .ensures in
+    let b = c .before .before .before .before .before .before .between .ensures in
+    rw (name-parts (formOf (s .fenced)) (spot (s .i) (s .j))) (then (then (then n i) b) (c .before .before .decimal2 .ensures))
+
+pub name-spec : {M : Type 1} → statement M
+name-spec =
+    tie.close
+    (tie.spec
+    byte-requires
+    decimal-requires
+    between-requires
+    decimal-requires-2
+    same-length
+    returns)

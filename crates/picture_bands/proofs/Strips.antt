@@ -1,0 +1,90 @@
+-- The columns of a row one after another: the code's spot is the row's, it fits into its column, and one column more is compared.
+use mathlib.Core.Path.{_≡_, refl, ap, sym, _∙_}
+use mathlib.Core.List.{List}
+use mathlib.Core.Bool.{Bool, true, false, _&&_, _||_, false≢true, and-true}
+use Prim.Native.Nat.{ℕ, _+_, _-_, _*_, _≤_, _<_}
+use native.Mathlib.Numerals.{add-one}
+use native.Mathlib.Omega.{arith}
+use lib.ListN.{getD}
+use Rattle.rules.specs.Base.{every, halfUp}
+use Rattle.rules.specs.Drawing.{boxes}
+use Rattle.rules.proofs.Candidate.{from}
+use Rattle.marks.specs.Alike.{alikeIn}
+use Rattle.marks.specs.Spot.{Spot, spotMark}
+use Rattle.marks.specs.Numbers.{endAt}
+use Rattle.marks.proofs.Alike.{every-split, every-all}
+use Rattle.picture_field.specs.declared.spot.Spot as F
+use Rattle.picture_field.specs.Fits.{plain, Fits}
+use Rattle.picture_bands.specs.Row.{Row, some, seenTo}
+use Rattle.picture_bands.specs.Strip.{sizeOf, spotBy, spotIn, stripSame, stripsSame, Room}
+
+pub fits-spot : (s : F.Spot) (width : ℕ) (r : Row) (a b x n t : ℕ) (cell up child on : Bool)
+    → plain s ≡ spotBy cell up child on (r .bend) x (r .middle) n t → Room width r a b x n t cell → r .top ≤ r .bend → Fits s a b (r .top) (r .end)
+unfolding halfUp
+fits-spot s width r a b x n t cell up child on e q h =
+    let li : s .line ≡ x - 1 = ap (λ (z : Spot). z .line) e in
+    let be : s .bend ≡ r .bend = ap (λ (z : Spot). z .bend) e in
+    let le = ap (λ (z : Spot). z .left) e in
+    let ri = ap (λ (z : Spot). z .right) e in
+    let to = ap (λ (z : Spot). z .top) e in
+    let bo = ap (λ (z : Spot). z .bottom) e in
+    let l = q .left-room in
+    let m = q .right-room in
+    record {
+      starts = omega arith;
+      line-in = omega arith;
+      line-out = omega arith;
+      ends = omega arith;
+      bend-from = omega arith;
+      stands =
+          λ z.
+          let w = q .stands (sym (ap (λ (z : Spot). z .joint .parent) e) ∙ z) in
+          let u = q .top-room in
+          let below = w .below in
+          let lined = w .lined in
+          let ends = w .ends in
+          let bends = w .bends in
+          record { below = omega arith; lined = omega arith; within = omega arith; bends = omega arith };
+    }
+
+-- the tests of one column more
+pub seen-step : (l : List ℕ) (j : ℕ) (b : Bool) → b ≡ seenTo l j → (b || some l j) ≡ seenTo l (j + 1)
+unfolding seenTo
+seen-step l j b e = rw (add-one j, e)
+
+module _ (cells : List ℕ) (width : ℕ) (r : Row) (lines longest cx xs : List ℕ) (ncols : ℕ) where
+  -- the answer for column j, by the flags before it and what was asked of its node
+  pub strip-is : (j b n t : ℕ) (s : F.Spot) (seen over same : Bool) → seen ≡ seenTo (r .here) j → over ≡ seenTo (r .above) j
+      → n ≡ sizeOf lines (getD (r .here) j 0) → t ≡ sizeOf longest (getD (r .here) j 0)
+      → plain s
+      ≡ spotBy (some (r .here) j) ((over || some (r .above) j) && some (r .here) j) ((seen || some (r .here) j) && some (r .next) j) ((seen || some (r .here) j) && some (r .on) j) (r .bend) (getD cx j 0) (r .middle) n t
+      → b ≡ endAt xs ncols width j
+      → same ≡ alikeIn (λ x y. getD cells (y * width + x) 0) (λ x y. spotMark boxes (plain s) (getD cells (y * width + x) 0) x y) (getD xs j 0) b (r .top) (r .end)
+      → same ≡ stripSame cells width r lines longest cx xs ncols j
+  unfolding stripSame seenTo
+  strip-is j b n t s seen over same ee eo en et es eb e =
+      let z : plain s ≡ spotIn r lines longest cx j = es ∙ rw (ee, eo, en, et) in
+      e
+      ∙ ap (λ (q : Spot). alikeIn (λ x y. getD cells (y * width + x) 0) (λ x y. spotMark boxes q (getD cells (y * width + x) 0) x y) (getD xs j 0) b (r .top) (r .end)) z
+      ∙ rw eb
+
+  pub strips-none : stripsSame cells width r lines longest cx xs ncols 0 ≡ true
+  unfolding every from
+  strips-none = refl
+
+  pub strips-next : (j : ℕ) → stripsSame cells width r lines longest cx xs ncols (j + 1) ≡ stripsSame cells width r lines longest cx xs ncols j && stripSame cells width r lines longest cx xs ncols j
+  unfolding every from
+  strips-next j =
+      let z : 0 + j ≡ j = omega arith in
+      every-split (stripSame cells width r lines longest cx xs ncols) 0 j 1 ∙ rw (z, and-true (stripSame cells width r lines longest cx xs ncols j))
+
+  pub strips-more : (j : ℕ) → stripsSame cells width r lines longest cx xs ncols j ≡ true → true ≡ stripSame cells width r lines longest cx xs ncols j
+      → stripsSame cells width r lines longest cx xs ncols (j + 1) ≡ true
+  strips-more j e f = strips-next j ∙ rw (e, ← f)
+
+  pub strips-not : (j m : ℕ) → j < m → false ≡ stripSame cells width r lines longest cx xs ncols j → false ≡ stripsSame cells width r lines longest cx xs ncols m
+  strips-not j m h f = go (stripsSame cells width r lines longest cx xs ncols m) refl
+    where
+      go : (b : Bool) → stripsSame cells width r lines longest cx xs ncols m ≡ b → false ≡ stripsSame cells width r lines longest cx xs ncols m
+      go true e = absurd (false≢true (f ∙ every-all (stripSame cells width r lines longest cx xs ncols) 0 m e j (omega arith) (omega arith)))
+      go false e = sym e

@@ -1,0 +1,118 @@
+// One band and the gap under it, column by column.
+ghost use mathlib.Core.Path.{_≡_};
+ghost use mathlib.Core.Bool.{not};
+ghost use Prim.Native.Nat.{ℕ, _+_, _*_, _/_, _^_, _≤_, _<_};
+ghost use lib.Dec.{eqb};
+ghost use lib.ListN.{length};
+ghost use Rattle.rules.specs.Base.{halfUp};
+ghost use Rattle.marks.specs.Numbers.{endAt};
+ghost use Rattle.picture_field.specs.Fits.{plain};
+ghost use Rattle.picture_bands.specs.Row.{rowBy};
+ghost use Rattle.picture_bands.specs.Strip.{sizeOf, spotBy, stripsSame, Apt};
+use picture_field::Spot;
+
+// Where column j ends: where the next one begins, the last with the canvas.
+fn column_end(xs: &[u32; 256], ncols: u32, j: usize, width: u32) -> u32
+    requires { ⌜ (j < ncols) × (ncols ≤ 256) ⌝ }
+    ensures { λ r. ⌜ r ≡ endAt (now (xs .entry)) ncols width j ⌝ }
+{
+    if j + 1 < text::wide(ncols) {
+        return xs[j + 1];
+    }
+    width
+}
+
+// What a list has of node k - 1; 0 where k is 0.
+fn size_of(sizes: &[u32; 256], k: usize) -> u32
+    requires { ⌜ k ≤ 256 ⌝ }
+    ensures { λ r. ⌜ r ≡ sizeOf (now (sizes .entry)) k ⌝ }
+{
+    if k == 0 {
+        return 0;
+    }
+    sizes[k - 1]
+}
+
+// The spot of node k - 1, of n lines, the longest of t bytes, centred at (cx, cy); of no cell where k is 0.
+fn spot_of(
+    k: usize,
+    up: bool,
+    child: bool,
+    on: bool,
+    bend: u32,
+    cx: u32,
+    cy: u32,
+    n: u32,
+    t: u32,
+) -> Spot
+    requires { ⌜ (halfUp t + 2 ≤ cx) × (cx + t + 3 < 2 ^ 32) ⌝ }
+    requires { ⌜ (n / 2 + 1 ≤ cy) × (cy + n < 2 ^ 32) ⌝ }
+    ensures { λ r. ⌜ plain r ≡ spotBy (not (eqb k 0)) up child on bend cx cy n t ⌝ }
+{
+    let f = tree_view::frame_of(cx, cy, n, t);
+    Spot {
+        cell: k != 0,
+        up,
+        child,
+        on,
+        line: cx - 1,
+        bend,
+        left: f.left,
+        top: f.top,
+        right: f.right,
+        bottom: f.bottom,
+    }
+}
+
+// The marks in all columns of a row are those of their spots.
+pub(crate) fn columns_same(
+    cells: &[u32],
+    width: u32,
+    above: &[u16; 256],
+    here: &[u16; 256],
+    next: &[u16; 256],
+    on: &[u16; 256],
+    top: u32,
+    end: u32,
+    bend: u32,
+    middle: u32,
+    lines: &[u32; 256],
+    longest: &[u32; 256],
+    cx: &[u32; 256],
+    xs: &[u32; 256],
+    ncols: u32,
+) -> bool
+    requires { ⌜ (end * width ≤ length (now cells)) × (top ≤ bend) × (ncols ≤ 256) ⌝ }
+    requires { ⌜ ((j : ℕ) → j < ncols → Apt width (rowBy (now above) (now here) (now next) (now on) top end bend middle) (now lines) (now longest) (now cx) (now xs) ncols j) ⌝ }
+    ensures { λ r. ⌜ r ≡ stripsSame (now (cells .entry)) width (rowBy (now (above .entry)) (now (here .entry)) (now (next .entry)) (now (on .entry)) top end bend middle) (now (lines .entry)) (now (longest .entry)) (now (cx .entry)) (now (xs .entry)) ncols ncols ⌝ }
+{
+    let n = text::wide(ncols);
+    let mut seen = false;
+    let mut over = false;
+    let mut j = 0;
+    while j < n {
+        let k = here[j] as usize;
+        seen = seen | (k != 0);
+        over = over | (above[j] != 0);
+        let child = seen & (next[j] != 0);
+        let onward = seen & (on[j] != 0);
+        let s = spot_of(
+            k,
+            over & (k != 0),
+            child,
+            onward,
+            bend,
+            cx[j],
+            middle,
+            size_of(lines, k),
+            size_of(longest, k),
+        );
+        let b = column_end(xs, ncols, j, width);
+        if picture_field::block_same(cells, width, s, xs[j], b, top, end) {
+            j += 1;
+        } else {
+            return false;
+        }
+    }
+    true
+}

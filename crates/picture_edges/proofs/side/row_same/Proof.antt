@@ -1,0 +1,78 @@
+-- The row's numbers are those of the arrays, and they have room.
+use mathlib.Core.Path.{ap, _∙_}
+use Prim.Native.Nat.{ℕ}
+use lib.ListN.{getD}
+use Rattle.picture_edges.proofs.Blocks.{rows-fit}
+use borrow.Author.Needs.{needs}
+use Rattle.picture_edges.proofs.side.row_same.Statement.{statement}
+use Rattle.picture_edges.proofs.side.row_same.Tie as tie
+
+wide-requires : tie.Need-wide-requires
+wide-requires c κs = search needs
+
+mul-wide : tie.Need-mul-wide
+mul-wide c = search needs
+
+element-copy-out-wide : tie.Need-element-copy-out-wide
+element-copy-out-wide c = search needs
+
+wide-requires-2 : tie.Need-wide-requires-2
+wide-requires-2 c κs = search needs
+
+mul-wide-2 : tie.Need-mul-wide-2
+mul-wide-2 c = search needs
+
+element-copy-out-wide-2 : tie.Need-element-copy-out-wide-2
+element-copy-out-wide-2 c = search needs
+
+wide-requires-3 : tie.Need-wide-requires-3
+wide-requires-3 c κs = search needs
+
+row-end-requires : tie.Need-row-end-requires
+row-end-requires c κs = search needs
+
+wide-requires-4 : tie.Need-wide-requires-4
+wide-requires-4 c κs = search needs
+
+wide-requires-5 : tie.Need-wide-requires-5
+wide-requires-5 c κs = search needs
+
+beside-same-requires : tie.Need-beside-same-requires
+beside-same-requires c κs =
+    let s = c .before .before .before .before .before .before .before .before .before in
+    let g = s .args in
+    let r = s .pre .3 in
+    let k = c .before .before .before .before .before .before .before .wide .ensures in
+    let top = c .before .before .before .wide3 .ensures ∙ ap (λ (q : ℕ). getD (g .ys .now) q 0) k in
+    let mid = c .before .before .before .before .before .wide2 .ensures ∙ ap (λ (q : ℕ). getD (g .cy .now) q 0) k in
+    let end = c .before .wide4 .ensures ∙ c .before .before .row-end .ensures in
+    rw (c .wide5 .ensures, top, mid, end)
+    (r .small, r .short, r .narrow, r .from-top, r .to-end, rows-fit (g .width) (g .height) _ _ (s .pre .0) (r .within))
+
+returns : tie.Need-returns
+returns c =
+    let w = c .before in
+    let s = w .before .before .before .before .before .before .before .before .before in
+    let g = s .args in
+    let k = w .before .before .before .before .before .before .before .wide .ensures in
+    let top = w .before .before .before .wide3 .ensures ∙ ap (λ (q : ℕ). getD (g .ys .now) q 0) k in
+    let mid = w .before .before .before .before .before .wide2 .ensures ∙ ap (λ (q : ℕ). getD (g .cy .now) q 0) k in
+    let end = w .before .wide4 .ensures ∙ w .before .before .row-end .ensures in
+    rw (w .wide5 .ensures, top, mid, end) at (c .beside-same .ensures)
+
+pub row-same-spec : {M : Type 1} → statement M
+row-same-spec =
+    tie.close
+    (tie.spec
+    wide-requires
+    mul-wide
+    element-copy-out-wide
+    wide-requires-2
+    mul-wide-2
+    element-copy-out-wide-2
+    wide-requires-3
+    row-end-requires
+    wide-requires-4
+    wide-requires-5
+    beside-same-requires
+    returns)

@@ -1,0 +1,63 @@
+-- The tests come one after another; each answer is the title's size by the tests that are passed.
+use native.Mathlib.Omega.{arith}
+use Rattle.picture_sight.specs.Seen.{seen}
+use Rattle.picture_gather.proofs.Titles.{half-le, size-lined, size-beside, size-long, size-loose, size-is}
+use borrow.Author.Needs.{needs}
+use Rattle.picture_gather.proofs.add.title_size.Statement.{statement}
+use Rattle.picture_gather.proofs.add.title_size.Tie as tie
+
+returns : tie.Need-returns
+returns c = size-lined _ _ _ _ _ _ (c .if1 .taken)
+
+half-up-requires : tie.Need-half-up-requires
+half-up-requires c κs = search needs
+
+add-if2 : tie.Need-add-if2
+add-if2 c =
+    let s = c .before .before .before .before .before in
+    record { fits = omega (arith, half-le (s .args .l .cells), c .before .half-up .ensures, s .pre .1) }
+
+returns-2 : tie.Need-returns-2
+returns-2 c = size-beside _ _ _ _ _ _ (c .before .before .before .if1 .left) (c .before .before .half-up .ensures) (c .if2 .taken)
+
+add-block-sizes : tie.Need-add-block-sizes
+add-block-sizes c = search needs
+
+block-sizes-requires : tie.Need-block-sizes-requires
+block-sizes-requires c κs = search needs
+
+returns-3 : tie.Need-returns-3
+returns-3 c =
+    let s = c .before .before .before .before .before .before .before .before .before .before .args in
+    let b = c .before .before in
+    size-long (seen (s .cells .now) (s .width) (s .height)) _ _ _ _ _ (b .before .before .before .before .before .if1 .left) (b .before .before .before .before .half-up .ensures) (b .before .before .if2 .left) (b .block-sizes .ensures .0) (b .block-sizes .ensures .1) (c .if3 .taken)
+
+wide-requires : tie.Need-wide-requires
+wide-requires c κs = search needs
+
+returns-4 : tie.Need-returns-4
+returns-4 c =
+    let s = c .before .before .before .before .before .before .before .before .before .before .before .before .before .args in
+    let b = c .before .before .before .before .before in
+    size-loose (seen (s .cells .now) (s .width) (s .height)) _ _ _ _ _ (b .before .before .before .before .before .if1 .left) (b .before .before .before .before .half-up .ensures) (b .before .before .if2 .left) (b .block-sizes .ensures .0) (b .block-sizes .ensures .1) (c .before .before .before .if3 .left) (c .before .before .wide .ensures) (c .if4 .taken)
+
+returns-5 : tie.Need-returns-5
+returns-5 c =
+    let s = c .before .before .before .before .before .before .before .before .before .before .before .before .before .args in
+    let b = c .before .before .before .before .before in
+    size-is (seen (s .cells .now) (s .width) (s .height)) _ _ _ _ _ (b .before .before .before .before .before .if1 .left) (b .before .before .before .before .half-up .ensures) (b .before .before .if2 .left) (b .block-sizes .ensures .0) (b .block-sizes .ensures .1) (c .before .before .before .if3 .left) (c .before .before .wide .ensures) (c .if4 .left)
+
+pub title-size-spec : {M : Type 1} → statement M
+title-size-spec =
+    tie.close
+    (tie.spec
+    returns
+    half-up-requires
+    add-if2
+    returns-2
+    add-block-sizes
+    block-sizes-requires
+    returns-3
+    wide-requires
+    returns-4
+    returns-5)

@@ -1,0 +1,135 @@
+// One cell of the picture is added to the nodes.
+use picture_sight::Label;
+ghost use mathlib.Core.Path.{_≡_};
+ghost use mathlib.Core.Bool.{true, false};
+ghost use Prim.Native.Nat.{_≤_, _<_, _+_, _*_};
+ghost use lib.ListN.{length, set};
+ghost use Rattle.rules.proofs.Candidate.{outside};
+ghost use Rattle.picture_sight.specs.Seen.{seen};
+ghost use Rattle.picture_gather.specs.Known.{Known};
+ghost use Rattle.picture_gather.specs.Partly.{cellsBefore, Partly, Answered};
+ghost use Rattle.picture_gather.specs.Title.{titleSize};
+
+// The nodes so far and their titles' bytes; bad: no plan draws this.
+pub struct Collected {
+    pub nodes: usize,
+    pub bytes: usize,
+    pub bad: bool,
+}
+
+// The bytes of a box's title; 0 where no plan has such a box in a column with the centre cx.
+fn title_size(cells: &[u32], width: u32, height: u32, l: Label, cx: u32) -> usize
+    requires { ⌜ (width * height ≤ length (now cells)) × (l .first + l .cells ≤ 2097152) × (l .top ≤ 1048576) × (1 ≤ l .lines) ⌝ }
+    ensures { λ r. ⌜ r ≡ titleSize (seen (now (cells .entry)) width height) cx (l .first) (l .top + 1) (l .cells) (l .lines) ⌝ }
+{
+    if 1025 < l.lines {
+        return 0;
+    }
+    if l.first + tree_view::half_up(l.cells) != cx {
+        return 0;
+    }
+    let b = picture_sight::block_sizes(cells, width, height, l.first, l.top + 1, l.cells, l.lines);
+    if 1024 < b.bytes {
+        return 0;
+    }
+    if b.longest != text::wide(l.cells) {
+        return 0;
+    }
+    b.bytes
+}
+
+// That no plan draws this.
+fn none() -> Collected
+    ensures { λ r. ⌜ r .bad ≡ true ⌝ }
+{
+    Collected {
+        nodes: 0,
+        bytes: 0,
+        bad: true,
+    }
+}
+
+// Stores node k: its depth, where its title starts, its title's size, the middle x of its box, its n lines and its longest line t.
+fn store(
+    k: usize,
+    depth: u32,
+    start: u32,
+    size: u32,
+    x: u32,
+    n: u32,
+    t: u32,
+    table: &mut [u32; 768],
+    middle: &mut [u32; 256],
+    lines: &mut [u32; 256],
+    longest: &mut [u32; 256],
+)
+    requires { ⌜ k < 256 ⌝ }
+    ensures { λ r. ⌜ now (table .exit) ≡ set (set (set (now (table .entry)) (k * 3) depth) (k * 3 + 1) start) (k * 3 + 2) size ⌝ }
+    ensures { λ r. ⌜ now (middle .exit) ≡ set (now (middle .entry)) k x ⌝ }
+    ensures { λ r. ⌜ now (lines .exit) ≡ set (now (lines .entry)) k n ⌝ }
+    ensures { λ r. ⌜ now (longest .exit) ≡ set (now (longest .entry)) k t ⌝ }
+{
+    table[k * 3] = depth;
+    table[k * 3 + 1] = start;
+    table[k * 3 + 2] = size;
+    middle[k] = x;
+    lines[k] = n;
+    longest[k] = t;
+}
+
+// Adds the cell of row i and column j, if there is one.
+pub(crate) fn add_at(
+    cells: &[u32],
+    width: u32,
+    height: u32,
+    cx: &[u32; 257],
+    j: u32,
+    band: &[u32; 33],
+    cy: &[u32; 33],
+    i: u32,
+    c: Collected,
+    table: &mut [u32; 768],
+    middle: &mut [u32; 256],
+    lines: &mut [u32; 256],
+    longest: &mut [u32; 256],
+) -> Collected
+    requires { ⌜ Known (now cells) width height (now cx) (now band) (now cy)
+        × (j < outside (seen (now cells) width height) width height .nc) × (i < outside (seen (now cells) width height) width height .nr) ⌝ }
+    requires { ⌜ (c .bad ≡ false)
+        × Partly (now cells) width height (cellsBefore (now cells) width height j i) (c .nodes) (c .bytes) (now table) (now middle) (now lines) (now longest) ⌝ }
+    ensures { λ r. ⌜ Answered (now (cells .entry)) width height (cellsBefore (now (cells .entry)) width height j (i + 1))
+        (r .bad) (r .nodes) (r .bytes) (now (table .exit)) (now (middle .exit)) (now (lines .exit)) (now (longest .exit)) ⌝ }
+{
+    let row = text::wide(i);
+    let x = cx[text::wide(j)];
+    let l = picture_sight::label_at(cells, width, height, band[row], cy[row], x);
+    if l.lines == 0 {
+        return c;
+    }
+    let k = c.nodes;
+    if 255 < k {
+        return none();
+    }
+    let size = title_size(cells, width, height, l, x);
+    if size == 0 {
+        return none();
+    }
+    store(
+        k,
+        i,
+        c.bytes as u32,
+        size as u32,
+        x,
+        l.lines,
+        l.cells,
+        table,
+        middle,
+        lines,
+        longest,
+    );
+    Collected {
+        nodes: k + 1,
+        bytes: c.bytes + size,
+        bad: false,
+    }
+}

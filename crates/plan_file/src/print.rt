@@ -1,0 +1,37 @@
+// What program `treetext` prints.
+ghost use mathlib.Core.Path.{_≡_};
+ghost use Prim.Native.Nat.{_≤_};
+ghost use lib.ListN.{length};
+ghost use Rattle.rules.specs.Base.{laid};
+ghost use Rattle.rules.specs.File.{fileCanvasAfter, refused, treetext as printed};
+use crate::draw::draw_file;
+use rules::Answer;
+use text::wide;
+
+// Lays the line of a refusal at the start of the output.
+fn refuse(out: &mut [u8], a: Answer) -> usize
+    requires { ⌜ 64 ≤ length (now out) ⌝ }
+    ensures { λ r. ⌜ (r ≡ length (refused a)) × (now (out .exit) ≡ laid (refused a) (now (out .entry))) ⌝ }
+{
+    let number = wide(rules::number(a));
+    let second = rules::second(a);
+    let word = put::bytes(out, 0, b"refused ");
+    let first = put::number(out, word, number);
+    let space = put::byte(out, first, b' ');
+    let last = put::number(out, space, second);
+    put::byte(out, last, b'\n')
+}
+
+// Lays the drawing of a file, or the line of its refusal, at the start of the output, and answers its length.
+pub fn treetext(file: &[u8], canvas: &mut [u32; 16384], out: &mut [u8; 65536]) -> usize
+    ensures { λ r. ⌜ (r ≡ length (printed (now (file .entry))))
+        × (now (canvas .exit) ≡ fileCanvasAfter (now (file .entry)) 65536 (now (canvas .entry)))
+        × (now (out .exit) ≡ laid (printed (now (file .entry))) (now (out .entry))) ⌝ }
+{
+    let d = draw_file(file, canvas, out);
+    let a = d.answer;
+    if rules::done(a) {
+        return rules::second(a);
+    }
+    refuse(out, a)
+}
