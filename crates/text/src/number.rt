@@ -1,6 +1,6 @@
 // Numbers: small steps that every crate above shares, and the decimal digits of an index.
 ghost use mathlib.Core.Path.{_≡_};
-ghost use Prim.Native.Nat.{_+_, _<_, max};
+ghost use Prim.Native.Nat.{_<_, _≤_, max};
 ghost use lib.ListN.{length, getD};
 ghost use Rattle.rules.specs.Lines as rule;
 
@@ -31,30 +31,55 @@ pub fn longer(a: usize, b: usize) -> usize
     a
 }
 
-// How many decimal digits n has: one, and one more for each time that 10 goes into it.
+// How many decimal digits an index has: it is below 256, so one, two or three.
 pub fn digits(n: u32) -> u32
     requires { ⌜ n < 256 ⌝ }
     ensures { λ r. ⌜ r ≡ length (rule.digits n) ⌝ }
 {
-    let mut rest = n;
-    let mut count: u32 = 1;
-    while 10 <= rest {
-        rest = rest / 10;
-        count += 1;
+    if n < 10 {
+        return 1;
     }
-    count
+    if n < 100 {
+        return 2;
+    }
+    3
 }
 
-// Digit k of n from the left, as a byte: the last digit, once those after it are divided away.
+// The first digit of an index, as a byte.
+fn first_digit(n: u32) -> u8
+    requires { ⌜ n < 256 ⌝ }
+    ensures { λ r. ⌜ r ≡ getD (rule.digits n) 0 0 ⌝ }
+{
+    if n < 10 {
+        return (48 + n) as u8;
+    }
+    if n < 100 {
+        return (48 + n / 10) as u8;
+    }
+    (48 + n / 100) as u8
+}
+
+// Its second digit, if it has one.
+fn second_digit(n: u32) -> u8
+    requires { ⌜ (10 ≤ n) × (n < 256) ⌝ }
+    ensures { λ r. ⌜ r ≡ getD (rule.digits n) 1 0 ⌝ }
+{
+    if n < 100 {
+        return (48 + n % 10) as u8;
+    }
+    (48 + n / 10 % 10) as u8
+}
+
+// Digit k of an index from the left, as a byte. The third is the last there can be.
 pub fn digit(n: u32, k: u32) -> u8
     requires { ⌜ (n < 256) × (k < length (rule.digits n)) ⌝ }
     ensures { λ r. ⌜ r ≡ getD (rule.digits n) k 0 ⌝ }
 {
-    let mut rest = n;
-    let mut after = digits(n) - 1 - k;
-    while 0 < after {
-        rest = rest / 10;
-        after -= 1;
+    if k == 0 {
+        return first_digit(n);
     }
-    (48 + rest % 10) as u8
+    if k == 1 {
+        return second_digit(n);
+    }
+    (48 + n % 10) as u8
 }

@@ -1,68 +1,42 @@
--- `text::number::digit` meets its contract: what is left has `after` digits behind digit k, and the same digit k as n.
-use mathlib.Core.Path.{_≡_, sym, _∙_}
-use Prim.Native.Nat.{_+_}
+-- A number below 256 has three digits at most, so what is neither the first nor the second is the last; and a number with a second digit is 10 or more.
+use mathlib.Core.Path.{ap, sym}
+use Prim.Native.Nat.{ℕ, _≤_, _<_}
+use native.Mathlib.Decide.{decLe}
 use native.Mathlib.Omega.{arith}
-use lib.ListN.{length, getD}
+use lib.ListN.{length}
 use Rattle.rules.specs.Lines.{digits}
-use Rattle.rules.proofs.Digits.{last-digit, earlier-digit}
+use Rattle.rules.proofs.Digits.{digits-one, digits-few, last-digit}
 use borrow.Author.Needs.{needs}
 use Rattle.text.proofs.number.digit.Statement.{statement}
 use Rattle.text.proofs.number.digit.Tie as tie
 
-abbrev Inv-loop : tie.InvT-loop
-Inv-loop n k rest₀ after₀ rest after = (length (digits rest) ≡ k + after + 1) × (getD (digits rest) k 0 ≡ getD (digits n) k 0)
+ten-on : (n : ℕ) → 1 < length (digits n) → 10 ≤ n
+ten-on n h = elim (decLe 10 n) [ yes a ↦ a | no a ↦ absurd (omega (arith, ap length (digits-one n (omega arith)))) ]
 
-abbrev μ-loop : tie.MeasureT-loop
-μ-loop n k rest₀ after₀ rest after = after
+first-digit-requires : tie.Need-first-digit-requires
+first-digit-requires c κs = search needs
 
-digits-requires : tie.Need-digits-requires Inv-loop μ-loop
-digits-requires c κs = search needs
+returns : tie.Need-returns
+returns c = rw (c .before .if1 .taken) (c .first-digit .ensures)
 
-sub-after : tie.Need-sub-after Inv-loop μ-loop
-sub-after c = search needs
+second-digit-requires : tie.Need-second-digit-requires
+second-digit-requires c κs =
+    let s = c .before .before in
+    (ten-on (s .args .n) (omega (arith, s .pre .1)), search needs)
 
-sub-after-2 : tie.Need-sub-after-2 Inv-loop μ-loop
-sub-after-2 c = search needs
+returns-2 : tie.Need-returns-2
+returns-2 c = rw (c .before .if2 .taken) (c .second-digit .ensures)
 
-loop-holds : tie.Need-loop-holds Inv-loop μ-loop
-loop-holds c = search needs
-
-sub-after-3 : tie.Need-sub-after-3 Inv-loop μ-loop
-sub-after-3 c = search needs
-
-loop-less : tie.Need-loop-less Inv-loop μ-loop
-loop-less c = search needs
-
-loop-again : tie.Need-loop-again Inv-loop μ-loop
-loop-again c =
-    let l = c .before .loop in
-    let e = earlier-digit (l .rest) (c .before .before .before .args .k) (omega arith) in
-    (omega (arith, e .1), e .0 ∙ l .inv .1)
-
-add-result : tie.Need-add-result Inv-loop μ-loop
+add-result : tie.Need-add-result
 add-result c = search needs
 
-cast-result : tie.Need-cast-result Inv-loop μ-loop
+cast-result : tie.Need-cast-result
 cast-result c = search needs
 
-returns : tie.Need-returns Inv-loop μ-loop
-returns c =
-    let l = c .before .loop in
-    sym (last-digit (l .rest) (c .before .before .before .args .k) (omega arith)) ∙ l .inv .1
+returns-3 : tie.Need-returns-3
+returns-3 c =
+    let s = c .before .before in
+    sym (last-digit (s .args .n) (s .args .k) (omega (arith, s .pre .1, digits-few (s .args .n) (search needs))))
 
 pub digit-spec : {M : Type 1} → statement M
-digit-spec =
-    tie.close
-    (tie.spec
-    Inv-loop
-    μ-loop
-    digits-requires
-    sub-after
-    sub-after-2
-    loop-holds
-    sub-after-3
-    loop-less
-    loop-again
-    add-result
-    cast-result
-    returns)
+digit-spec = tie.close (tie.spec first-digit-requires returns second-digit-requires returns-2 add-result cast-result returns-3)
