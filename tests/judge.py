@@ -1,8 +1,8 @@
 """What the programs are held to: requests to `answers`, and the line that each must get.
 
 Texts and the crate's graphs come from the Rust crate itself (../shared/oracle builds its code); refusals, sizes, the fenced graph, the
-plan that is read off a picture and what is left in lent memory from a second reading of document 01 (../shared/model/rules.py).
-Nothing here runs our code.
+plan that is read off a picture and what is left in lent memory from a second reading of the documents (../shared/model/rules.py is
+document 01, and takes a request of document 02 as a keyword). Nothing here runs our code.
 """
 import os, shutil, struct, subprocess, sys
 
@@ -34,6 +34,11 @@ def left_out(line):
 def command(program):
     """Runs a program that rt built: such programs are for x86-64, and elsewhere tests/program runs them."""
     return [program] if os.uname().machine == 'x86_64' else [os.path.join(ROOT, 'tests', 'program'), program]
+
+
+def fenced(plan):
+    """The fenced graph; (ii) a backslash in a title as two."""
+    return rules.graph(plan, fenced=True, backslashes=True)
 
 
 def head(op, lent1, lent2, lent3, length): return struct.pack('<5I', op, lent1, lent2, lent3, length)
@@ -78,7 +83,7 @@ class Request:
         if self.broken: return rules.TRAILER, 0, none, [], b''
         if self.refusal: return *self.refusal, none, [], b''
         if self.op in (GRAPH, FENCED):
-            if self.op == FENCED: crate = rules.graph(self.plan, fenced=True)
+            if self.op == FENCED: crate = fenced(self.plan)
             if len(crate) > self.lent2: return rules.ROOM, len(crate), none, [], b''
             return rules.DONE, len(crate), none, [], crate
         width, height = self.view.width, self.view.height

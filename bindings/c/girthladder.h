@@ -87,7 +87,8 @@ void girthladder_dot(const uint32_t *table, size_t table_length,
                      uint8_t *out, size_t out_length,
                      struct girthladder_answer *answer);
 
-/* The same for Graphviz: quotes and line breaks in titles are escaped, and no two nodes share a name. */
+/* The same for Graphviz: quotes, backslashes and line breaks in titles are escaped, so that a title shows as it was typed and no two titles
+ * have one label; and no two nodes share a name. */
 void girthladder_fenced(const uint32_t *table, size_t table_length,
                         const uint8_t *titles, size_t titles_length,
                         uint8_t *out, size_t out_length,

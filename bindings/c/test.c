@@ -264,6 +264,9 @@ static void each_reading(void) {
 int main(void) {
     const uint32_t table[] = {0, 0, 1, 1, 1, 1, 1, 2, 1}, untitled[] = {0, 0, 1, 1, 1, 0, 1, 1, 0};
     struct plan p = plan(table, 9, "abc", 3), empty = plan(NULL, 0, NULL, 0), lost = plan(untitled, 9, "abc", 3);
+    const uint32_t alone[] = {0, 0, 5};
+    struct plan typed = plan(alone, 3, "C:\\l\"", 5);
+    static const char path[] = "graph {\n    n0_0 [label=\"C:\\\\l\\\"\", ordering=\"out\"]\n}";
     for (int null = 0; null < 2; null++) {
         for (size_t cells = 0; cells < CELLS + 20; cells++) example(&p, cells, BYTES, null);
         for (size_t room = 0; room < BYTES + 20; room++) example(&p, CELLS, room, null);
@@ -272,6 +275,7 @@ int main(void) {
         for (size_t room = 0; room < sizeof fenced + 20; room++) graphed(girthladder_fenced, fenced, sizeof fenced - 1, &p, room, null);
         graphed(girthladder_dot, "graph {\n    \n}", 14, &empty, 14, null);
         graphed(girthladder_fenced, "graph {\n    \n}", 14, &empty, 0, null);
+        graphed(girthladder_fenced, path, sizeof path - 1, &typed, sizeof path, null);
         struct lent canvas = lend(4 * CELLS), out = lend(5 * CELLS);
         struct girthladder_answer a = call(NULL, &lost, &canvas, &out, null);
         CHECK(a.number == GIRTHLADDER_DONE && a.untitled == 2);
@@ -283,6 +287,7 @@ int main(void) {
     forget(&p);
     forget(&empty);
     forget(&lost);
+    forget(&typed);
     printf("C: document 01's example drawn and read back, and every refusal, with guarded memory: %ld checks hold\n", checks);
     return 0;
 }

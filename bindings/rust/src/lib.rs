@@ -48,7 +48,7 @@ pub fn dot(plan: &Plan) -> Result<String, Refusal> {
     grown(plan, lent::dot)
 }
 
-/// The graph for Graphviz: quotes and line breaks of titles escaped, no name twice.
+/// The graph for Graphviz: quotes, backslashes and line breaks of titles escaped, no name twice.
 pub fn fenced(plan: &Plan) -> Result<String, Refusal> {
     grown(plan, lent::fenced)
 }

@@ -46,6 +46,8 @@ fn the_example() {
     assert!(fenced(&example()).unwrap().contains("    n0_0 -- n1_1\n"));
     assert_eq!(dot(&Plan::new()).unwrap(), "graph {\n    \n}");
     assert_eq!(fenced(&plan(&[(0, "say \"a\"\nb")])).unwrap(), "graph {\n    n0_0 [label=\"say \\\"a\\\"\\nb\", ordering=\"out\"]\n}");
+    assert_eq!(fenced(&plan(&[(0, "C:\\lake\\")])).unwrap(), "graph {\n    n0_0 [label=\"C:\\\\lake\\\\\", ordering=\"out\"]\n}");
+    assert_eq!(dot(&plan(&[(0, "C:\\lake\\")])).unwrap(), "graph {\n    n00 [label=\"C:\\lake\\\", ordering=\"out\"]\n}");
 }
 
 #[test]

@@ -17,6 +17,9 @@ pub fn escape(out: &mut [u8], at: usize, b: u8) -> usize
     if b == 10 {
         return put::bytes(out, at, b"\\n");
     }
+    if b == 92 {
+        return put::bytes(out, at, b"\\\\");
+    }
     put::byte(out, at, b)
 }
 

@@ -3,7 +3,7 @@ use borrow.Author.Needs.{needs}
 use mathlib.Core.List.{[], _∷_}
 use Rattle.rules.specs.Graph.{escaped}
 use Rattle.put.proofs.Puts.{room}
-use Rattle.graphs.proofs.Escapes.{quote, line, other}
+use Rattle.graphs.proofs.Escapes.{quote, line, backslash, other}
 use Rattle.graphs.proofs.label.escape.Statement.{statement}
 use Rattle.graphs.proofs.label.escape.Tie as tie
 
@@ -36,16 +36,34 @@ returns-2 : tie.Need-returns-2
 returns-2 c =
     rw (line (c .before .before .before .before .before .before .before .before .args .b) (search needs) (search needs)) (c .before .before .bytes2 .ensures)
 
-byte-requires : tie.Need-byte-requires
-byte-requires c κs =
-    let s = c .before .before .before .before in
-    room (escaped (s .args .b)) (s .args .b ∷ []) (s .args .at) (other (s .args .b) (search needs) (search needs)) (s .pre)
+slice-aggregate-bytes-3 : tie.Need-slice-aggregate-bytes-3
+slice-aggregate-bytes-3 c = search needs
+
+bytes-requires-3 : tie.Need-bytes-requires-3
+bytes-requires-3 c κs =
+    let s = c .before .before .before .before .before .before in
+    room (escaped (s .args .b)) (92 ∷ 92 ∷ []) (s .args .at) (backslash (s .args .b) (search needs) (search needs) (search needs)) (s .pre)
 
 same-length-3 : tie.Need-same-length-3
 same-length-3 c = search needs
 
 returns-3 : tie.Need-returns-3
-returns-3 c = rw (other (c .before .before .before .before .before .before .before .args .b) (search needs) (search needs)) (c .before .before .byte .ensures)
+returns-3 c =
+    rw (backslash (c .before .before .before .before .before .before .before .before .before .args .b) (search needs) (search needs) (search needs))
+    (c .before .before .bytes3 .ensures)
+
+byte-requires : tie.Need-byte-requires
+byte-requires c κs =
+    let s = c .before .before .before .before .before in
+    room (escaped (s .args .b)) (s .args .b ∷ []) (s .args .at) (other (s .args .b) (search needs) (search needs) (search needs)) (s .pre)
+
+same-length-4 : tie.Need-same-length-4
+same-length-4 c = search needs
+
+returns-4 : tie.Need-returns-4
+returns-4 c =
+    rw (other (c .before .before .before .before .before .before .before .before .args .b) (search needs) (search needs) (search needs))
+    (c .before .before .byte .ensures)
 
 pub escape-spec : {M : Type 1} → statement M
 escape-spec =
@@ -59,6 +77,10 @@ escape-spec =
     bytes-requires-2
     same-length-2
     returns-2
-    byte-requires
+    slice-aggregate-bytes-3
+    bytes-requires-3
     same-length-3
-    returns-3)
+    returns-3
+    byte-requires
+    same-length-4
+    returns-4)
