@@ -36,6 +36,24 @@ def command(program):
     return [program] if os.uname().machine == 'x86_64' else [os.path.join(ROOT, 'tests', 'program'), program]
 
 
+def check(table, titles, text=True):
+    """The first refusal of 1 to 6, or None; (vii) a later depth of 0 starts another root."""
+    return rules.check(table, titles, text, roots=True)
+
+
+def ordinary(plan): return rules.ordinary(plan, roots=True)
+def read(picture): return rules.read(picture, roots=True)
+def draw(table, titles, cells, room): return rules.draw(table, titles, cells, room, roots=True)
+
+
+def treetext(file):
+    """What the program prints for a file."""
+    got = rules.from_file(file)
+    if got is None: return b'refused %d 0\n' % rules.TRAILER
+    number, second, _, _, _, out = draw(*got, 16384, 65536)
+    return out if number == rules.DONE else b'refused %d %d\n' % (number, second)
+
+
 def fenced(plan):
     """The fenced graph; (ii) a backslash in a title as two."""
     return rules.graph(plan, fenced=True, backslashes=True)
@@ -55,7 +73,7 @@ class Request:
             self.broken = got is None
             table, titles = got or ([], b'')
         self.table, self.titles = table, titles
-        self.refusal = None if self.broken else rules.check(table, titles, op in (TEXT, FILE))
+        self.refusal = None if self.broken else check(table, titles, op in (TEXT, FILE))
         self.plan = None if self.broken or self.refusal else rules.plan_of(table, titles)
         self.view = rules.View(self.plan) if self.plan and op in (TEXT, FILE) else None
         if self.view and self.view.width * self.view.height > min(lent1, rules.LIMIT): self.form = None
@@ -121,7 +139,7 @@ class Picture:
         if need > rules.LIMIT: return rules.LARGE, 0, [], [], b''
         if need > self.lent1: return rules.CANVAS, need, [], [], b''
         cells = [ord(c) for row in rows for c in row.ljust(width)]
-        plan = rules.read(self.picture)
+        plan = read(self.picture)
         if not isinstance(plan, list): return plan, 0, cells, [], b''
         table, titles = laid(plan)
         if len(table) > self.lent2: return rules.ROOM, len(table), cells, [], b''
@@ -167,6 +185,22 @@ class Crate:
 
 # ---- plans
 
+# several plans on one sheet: three roots; roots without a box at the left, between two that have one, and all of them; none with a box;
+# 256 roots on one level, with boxes and without; 32 levels side by side
+FORESTS = [[(d, t.encode()) for d, t in p] for p in (
+    [(0, 'a'), (0, 'b'), (1, 'c'), (0, 'd')],
+    [(0, 'a'), (1, 'b'), (2, 'c'), (1, 'd'), (0, 'e'), (0, 'f'), (1, 'g'), (1, 'h\ni'), (2, 'j')],
+    [(0, 'a'), (1, 'b'), (0, ''), (1, 'c'), (1, 'd'), (0, 'e'), (1, 'f')],
+    [(0, ''), (1, 'a'), (2, 'b'), (0, 'c'), (1, ''), (2, 'd')],
+    [(0, ''), (1, 'a'), (0, ''), (1, 'b'), (1, ''), (2, 'c'), (0, '')],
+    [(0, 'a'), (0, ''), (0, 'b')],
+    [(0, ''), (0, ''), (1, ''), (0, '')],
+    [(0, 'r')] * 256,
+    [(0, '')] * 256,
+    [(0, 'r%d' % k) for k in range(256)],
+    [(d, 'x%d' % d) for _ in range(8) for d in range(32)],
+    [(d, 'x' if (k + d) % 3 else '') for k in range(8) for d in range(32)],
+)]
 LETTERS = list('ab c0 │─╭╮╰╯┴┬┌π') + ['é', '"', '\\', '\n', '\n', '\u3000', '漢', '𝄞', '\U0010ffff', '\r', '\t', '\x00', '\x7f', '-', '+', '|', '\u00a0', '\u2028']
 
 
@@ -187,14 +221,14 @@ def random_title(rng):
 
 
 def random_plan(rng):
-    """1 to 256 nodes on 1 to 32 levels, some with empty titles."""
+    """1 to 256 nodes on 1 to 32 levels, some with several roots, some with empty titles."""
     most, deepest = rng.choice([1, 3, 6, 12, 12, 12, 40, 100 if rng.random() < .2 else 7, 256 if rng.random() < .1 else 5]), rng.choice([1, 2, 5, 12, 31])
-    empty, chain, wide = rng.choice([0, 0, .2, .6, 1]), rng.random() < .3, rng.random() < .5
+    empty, chain, wide, root = rng.choice([0, 0, .2, .6, 1]), rng.random() < .3, rng.random() < .5, rng.choice([0, 0, .1, .3, 1])
     if rng.random() < .005: return [(min(k, 1), b'\n' * rng.randrange(40) + b'x' * rng.randrange(900)) for k in range(rng.randrange(20, 256))]  # large ones
     plan = []
     for k in range(rng.randint(1, most)):
         high = min(deepest, plan[-1][0] + 1) if plan else 0
-        depth = 0 if not plan else high if chain and rng.random() < .8 else rng.randint(1, max(high, 1))
+        depth = 0 if not plan or rng.random() < root else high if chain and rng.random() < .8 else rng.randint(1, max(high, 1))
         title = b'' if rng.random() < empty else random_title(rng) if wide else rng.choice('abcdef').encode()
         plan.append((depth, title))
     return plan

@@ -2,7 +2,8 @@
  *
  * A plan is a table and the bytes of its titles. The table has three uint32_t for each node, nodes depth first:
  *
- *     depth          0 for the first node, and for it alone; each later depth is at least 1 and at most one more than the depth before it
+ *     depth          0 for the first node; each later depth is at most one more than the depth before it. A later 0 starts another root:
+ *                    another plan on the same sheet, to the right of what stands before it
  *     title start    where the node's title begins in the title bytes
  *     title length   in bytes; a title is UTF-8, its lines are parted by '\n', and an empty title gives a node without a box
  *

@@ -164,7 +164,7 @@ static void each_refusal(void) {
     static uint32_t many[3 * 257], deep[3 * 33], wide[3 * 256];
     static uint8_t long_title[1025];
     const uint32_t good[] = {0, 0, 1, 1, 1, 1, 1, 2, 1};
-    const uint32_t second_root[] = {0, 0, 1, 0, 1, 1}, jump[] = {0, 0, 1, 1, 0, 1, 3, 0, 1}, no_root[] = {1, 0, 1};
+    const uint32_t second_root[] = {0, 0, 1, 0, 1, 1, 2, 2, 1}, jump[] = {0, 0, 1, 1, 0, 1, 3, 0, 1}, no_root[] = {1, 0, 1};
     const uint32_t outside[] = {0, 0, 1, 1, 2, 2}, wraps[] = {0, 0, 1, 1, 0xFFFFFFFF, 0xFFFFFFFF}, lengthy[] = {0, 0, 1025};
     const uint32_t both[] = {0, 9, 9, 2, 0, 1};
     memset(long_title, 'x', sizeof long_title);
@@ -176,7 +176,7 @@ static void each_refusal(void) {
     refused(many, 3 * 257, "", 0, GIRTHLADDER_MANY, 0, 1);
     refused(NULL, 0, NULL, 0, GIRTHLADDER_NONE, 0, 0);
     refused(no_root, 3, "abc", 3, GIRTHLADDER_DEPTH, 0, 1);
-    refused(second_root, 6, "abc", 3, GIRTHLADDER_DEPTH, 1, 1);
+    refused(second_root, 9, "abc", 3, GIRTHLADDER_DEPTH, 2, 1);
     refused(jump, 9, "abc", 3, GIRTHLADDER_DEPTH, 2, 1);
     refused(deep, 3 * 33, "", 0, GIRTHLADDER_DEPTH, 32, 1);
     refused(both, 6, "abc", 3, GIRTHLADDER_DEPTH, 1, 1);
@@ -261,6 +261,30 @@ static void each_reading(void) {
     }
 }
 
+/* Two plans on one sheet: drawn, read back, and as a graph. */
+static void two_roots(void) {
+    const uint32_t table[] = {0, 0, 1, 0, 1, 1, 1, 2, 1};
+    static const char roots[] =
+        "graph {\n"
+        "    n0_0 [label=\"a\", ordering=\"out\"]\n"
+        "    n0_1 [label=\"b\", ordering=\"out\"]\n"
+        "    n0_1 -- n1_1\n"
+        "    n1_1 [label=\"c\", ordering=\"out\"]\n"
+        "}";
+    struct plan p = plan(table, 9, "abc", 3);
+    struct lent canvas = lend(4 * CELLS), out = lend(5 * CELLS), again = lend(sizeof table), titles = lend(3);
+    struct girthladder_answer a = call(NULL, &p, &canvas, &out, 0);
+    CHECK(a.number == GIRTHLADDER_DONE && a.width == 18 && a.height == 12 && a.untitled == 0);
+    a = reading(out.at, (size_t)a.second, &canvas, &again, &titles, 0);
+    CHECK(is(a, GIRTHLADDER_DONE, 3) && memcmp(again.at, table, sizeof table) == 0 && memcmp(titles.at, "abc", 3) == 0);
+    graphed(girthladder_fenced, roots, sizeof roots - 1, &p, sizeof roots, 0);
+    give_back(&canvas);
+    give_back(&out);
+    give_back(&again);
+    give_back(&titles);
+    forget(&p);
+}
+
 int main(void) {
     const uint32_t table[] = {0, 0, 1, 1, 1, 1, 1, 2, 1}, untitled[] = {0, 0, 1, 1, 1, 0, 1, 1, 0};
     struct plan p = plan(table, 9, "abc", 3), empty = plan(NULL, 0, NULL, 0), lost = plan(untitled, 9, "abc", 3);
@@ -282,6 +306,7 @@ int main(void) {
         give_back(&canvas);
         give_back(&out);
     }
+    two_roots();
     each_refusal();
     each_reading();
     forget(&p);

@@ -2,8 +2,9 @@
 
 /// A plan: nodes depth first, each with its depth and its title.
 ///
-/// The first node is at depth 0; a node under another is one deeper. Nothing is refused here: what cannot be drawn is told by
-/// [`draw`](crate::draw), [`dot`](crate::dot) or [`fenced`](crate::fenced), with the node and the reason.
+/// The first node is at depth 0; a node under another is one deeper; a later node at depth 0 is another root, and starts another plan on
+/// the same sheet. Nothing is refused here: what cannot be drawn is told by [`draw`](crate::draw), [`dot`](crate::dot) or
+/// [`fenced`](crate::fenced), with the node and the reason.
 #[derive(Clone, Debug, Default, PartialEq, Eq)]
 pub struct Plan {
     table: Vec<u32>,

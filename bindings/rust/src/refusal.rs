@@ -12,7 +12,7 @@ pub enum Refusal {
     Many { nodes: usize },
     /// 3: no node; drawing only.
     NoNode,
-    /// 4: this node's depth breaks the rule, or is over 31. `before` is the depth of the node before it.
+    /// 4: the first node's depth is not 0, or this node is more than one deeper than the node before it, which is at depth `before`, or its depth is over 31.
     Depth { node: usize, depth: u32, before: Option<u32> },
     /// 5: this node's title has over 1,024 bytes, or lies outside the title bytes, of which there are `titles`.
     Title { node: usize, start: u32, length: u32, titles: usize },
@@ -90,7 +90,6 @@ impl fmt::Display for Refusal {
             Refusal::Many { nodes } => write!(f, "the plan has {nodes} nodes, and at most {} can be shown", crate::MOST_NODES),
             Refusal::NoNode => write!(f, "the plan has no node, so there is nothing to draw"),
             Refusal::Depth { node, depth, before: None } => write!(f, "node {node} is at depth {depth}, but the first node must be at depth 0"),
-            Refusal::Depth { node, depth: 0, .. } => write!(f, "node {node} is at depth 0, but only the first node may be"),
             Refusal::Depth { node, depth, before: Some(before) } if depth > before.saturating_add(1) => {
                 write!(f, "node {node} is at depth {depth}, but the node before it is at depth {before}, so {} is the deepest it may be", before.saturating_add(1))
             },

@@ -51,6 +51,13 @@ fn the_example() {
 }
 
 #[test]
+fn two_plans_on_one_sheet() {
+    let sheet = plan(&[(0, "a"), (1, "b"), (0, "c"), (1, "d")]);
+    assert_eq!(read(draw(&sheet).unwrap()).unwrap(), sheet);
+    assert!(dot(&sheet).unwrap().contains("    n00 -- n10\n    n01 [label=\"c\", ordering=\"out\"]\n    n01 -- n11\n"));
+}
+
+#[test]
 fn every_length_around_what_is_needed() {
     let bytes = PICTURE.len();
     for cells in 0..CELLS + 9 {
@@ -130,7 +137,10 @@ fn each_refusal_of_a_plan() {
     assert_eq!(said(&many), (2, "the plan has 300 nodes, and at most 256 can be shown".into()));
     assert_eq!(said(&Plan::new()), (3, "the plan has no node, so there is nothing to draw".into()));
     assert_eq!(said(&plan(&[(2, "a")])), (4, "node 0 is at depth 2, but the first node must be at depth 0".into()));
-    assert_eq!(said(&plan(&[(0, "a"), (0, "b")])), (4, "node 1 is at depth 0, but only the first node may be".into()));
+    assert_eq!(
+        said(&plan(&[(0, "a"), (0, "b"), (2, "c")])),
+        (4, "node 2 is at depth 2, but the node before it is at depth 0, so 1 is the deepest it may be".into())
+    );
     assert_eq!(
         said(&plan(&[(0, "a"), (1, "b"), (usize::MAX, "c")])),
         (4, "node 2 is at depth 4294967295, but the node before it is at depth 1, so 2 is the deepest it may be".into())

@@ -18,28 +18,26 @@ use Rattle.rules.specs.Numbers.{number, ragged, many, noNode, badDepth, badTitl
 use Rattle.rules.specs.Answers.{done}
 use Rattle.rules.specs.declared.Answer.{Answer}
 use Rattle.rules.proofs.Firsts.{first-before}
-use Rattle.rules.proofs.Tests.{neither, both}
+use Rattle.rules.proofs.Tests.{neither}
 use Rattle.levels.specs.Accepted.{checked, Accepted}
 use Rattle.levels.proofs.Plans.{node-plan, depth-whole}
 use Rattle.levels.proofs.Tests.{right-title}
 
 -- the depth rule in numbers
-rule-first : (p : List Node) → depthRule 1 p 0 ≡ true → depthAt p 0 ≡ 0
+rule-first : (p : List Node) → depthRule p 0 ≡ true → depthAt p 0 ≡ 0
 unfolding depthRule
 rule-first p e = eqb-true (depthAt p 0) 0 e
 
-rule-later : (p : List Node) (k : ℕ) → depthRule 1 p (suc k) ≡ true → (1 ≤ depthAt p (suc k)) × (depthAt p (suc k) ≤ depthAt p k + 1)
+rule-later : (p : List Node) (k : ℕ) → depthRule p (suc k) ≡ true → depthAt p (suc k) ≤ depthAt p k + 1
 unfolding depthRule
-rule-later p k e =
-    let b = both (leb 1 (depthAt p (suc k))) (leb (depthAt p (suc k)) (depthAt p k + 1)) e in
-    (leb-true 1 (depthAt p (suc k)) (b .0), leb-true (depthAt p (suc k)) (depthAt p k + 1) (b .1))
+rule-later p k e = leb-true (depthAt p (suc k)) (depthAt p k + 1) e
 
 module _ {T B : List ℕ} (a : Accepted T B) where
-  good-depth : (k : ℕ) → k < count T → (depthRule 1 (planOf T B) k ≡ true) × (depthAt (planOf T B) k < 32)
+  good-depth : (k : ℕ) → k < count T → (depthRule (planOf T B) k ≡ true) × (depthAt (planOf T B) k < 32)
   unfolding badDepth
   good-depth k h =
-      let b = neither (not (depthRule 1 (planOf T B) k)) (leb 32 (depthAt (planOf T B) k)) (a .depths k h) in
-      (not-false (depthRule 1 (planOf T B) k) (b .0), leb-false 32 (depthAt (planOf T B) k) (b .1))
+      let b = neither (not (depthRule (planOf T B) k)) (leb 32 (depthAt (planOf T B) k)) (a .depths k h) in
+      (not-false (depthRule (planOf T B) k) (b .0), leb-false 32 (depthAt (planOf T B) k) (b .1))
 
   -- depths
   pub depth-small : (k : ℕ) → k < count T → depthIn T k < 32
@@ -48,7 +46,7 @@ module _ {T B : List ℕ} (a : Accepted T B) where
   pub depth-first : 0 < count T → depthIn T 0 ≡ 0
   depth-first h = sym (depth-whole T B (a .whole) 0) ∙ rule-first (planOf T B) (good-depth 0 h .0)
 
-  pub depth-later : (k : ℕ) → k + 1 < count T → (1 ≤ depthIn T (k + 1)) × (depthIn T (k + 1) ≤ depthIn T k + 1)
+  pub depth-later : (k : ℕ) → k + 1 < count T → depthIn T (k + 1) ≤ depthIn T k + 1
   depth-later k h =
       let r = rule-later (planOf T B) k (good-depth (suc k) (omega arith) .0) in
       rw (add-one k) (omega (arith, r, depth-whole T B (a .whole) k, depth-whole T B (a .whole) (suc k)))

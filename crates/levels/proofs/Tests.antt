@@ -29,20 +29,20 @@ first-depth : (d : ℕ) → (not (eqb d 0) || leb 32 d) ≡ not (eqb d 0)
 first-depth zero = refl
 first-depth (suc d) = rw (ne-eqb (suc d) 0 (λ e. omega arith))
 
--- of a later one: under 1, over 31, or more than one deeper than the node before
+-- of a later one: over 31, or more than one deeper than the node before; 0 is right
 module _ (p : List Node) (k : ℕ) where
-  later-low : depthAt p (suc k) < 1 → badDepth p (suc k) ≡ true
+  later-root : depthAt p (suc k) < 1 → badDepth p (suc k) ≡ false
   unfolding badDepth depthRule
-  later-low h = rw (lt-leb 1 (depthAt p (suc k)) h)
+  later-root h = rw (le-leb (depthAt p (suc k)) (depthAt p k + 1) (omega arith), lt-leb 32 (depthAt p (suc k)) (omega arith))
 
   later-deep : 31 < depthAt p (suc k) → badDepth p (suc k) ≡ true
   unfolding badDepth
-  later-deep h = or-right (not (depthRule 1 p (suc k))) (leb 32 (depthAt p (suc k))) (le-leb 32 (depthAt p (suc k)) h)
+  later-deep h = or-right (not (depthRule p (suc k))) (leb 32 (depthAt p (suc k))) (le-leb 32 (depthAt p (suc k)) h)
 
   later-step : 1 ≤ depthAt p (suc k) → depthAt p (suc k) ≤ 31 → badDepth p (suc k) ≡ ltb (depthAt p k) (depthAt p (suc k) - 1)
   unfolding badDepth depthRule
   later-step h g =
-      rw (le-leb 1 (depthAt p (suc k)) h, lt-leb 32 (depthAt p (suc k)) (omega arith))
+      rw (lt-leb 32 (depthAt p (suc k)) (omega arith))
       (elim (decLe (depthAt p (suc k)) (depthAt p k + 1)) [
         | yes s ↦ rw (le-leb (depthAt p (suc k)) (depthAt p k + 1) s, le-ltb (depthAt p k) (depthAt p (suc k) - 1) (omega arith))
         | no s ↦ rw (lt-leb (depthAt p (suc k)) (depthAt p k + 1) (omega arith), lt-ltb (depthAt p k) (depthAt p (suc k) - 1) (omega arith))
@@ -55,9 +55,9 @@ module _ (T : List ℕ) (w : length T ≡ 3 * count T) where
   wrong-first zero e = rw (depth-whole T [] w 0) (first-depth (depthIn T 0))
   wrong-first (suc k) e = absurd (omega arith)
 
-  pub wrong-low : (k : ℕ) → (k ≡ 0 → ⊥) → depthIn T k < 1 → badDepth (planOf T []) k ≡ true
-  wrong-low zero n h = absurd (n refl)
-  wrong-low (suc k) n h = later-low (planOf T []) k (rw (depth-whole T [] w (suc k)) h)
+  pub right-root : (k : ℕ) → (k ≡ 0 → ⊥) → depthIn T k < 1 → badDepth (planOf T []) k ≡ false
+  right-root zero n h = absurd (n refl)
+  right-root (suc k) n h = later-root (planOf T []) k (rw (depth-whole T [] w (suc k)) h)
 
   pub wrong-deep : (k : ℕ) → (k ≡ 0 → ⊥) → 31 < depthIn T k → badDepth (planOf T []) k ≡ true
   wrong-deep zero n h = absurd (n refl)

@@ -10,7 +10,7 @@ ghost use Rattle.levels.specs.Accepted.{checked};
 use crate::titles::title;
 use rules::Answer;
 
-// The depth of node k is not one that may follow the node before it, or is too great.
+// The depth of node k is not one that may follow the node before it, or is too great. (A later depth of 0 starts another root.)
 fn wrong_depth(table: &[u32], k: usize) -> bool
     requires { ⌜ (k < count (now table)) × (length (now table) ≡ 3 * count (now table)) ⌝ }
     ensures { λ r. ⌜ r ≡ badDepth (planOf (now (table .entry)) []) k ⌝ }
@@ -20,7 +20,7 @@ fn wrong_depth(table: &[u32], k: usize) -> bool
         return d != 0;
     }
     if d < 1 {
-        return true;
+        return false;
     }
     if rules::MOST_LEVELS <= d {
         return true;

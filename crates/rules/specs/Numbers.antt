@@ -6,7 +6,7 @@ use lib.Dec.{leb, ltb, eqb}
 use lib.ListN.{length}
 use Rattle.rules.specs.Base.{pick, first}
 use Rattle.rules.specs.Utf8.{valid}
-use Rattle.rules.specs.Plan.{Node, mostNodes, mostLevels, mostTitle, count, startIn, sizeIn, planOf, nodeAt, depthAt, depthRule, leastLater}
+use Rattle.rules.specs.Plan.{Node, mostNodes, mostLevels, mostTitle, count, startIn, sizeIn, planOf, nodeAt, depthAt, depthRule}
 use Rattle.rules.specs.declared.Answer.{Answer}
 use Rattle.rules.specs.declared.Reading.{Reading}
 
@@ -70,7 +70,7 @@ noNode T = eqb (count T) 0
 
 -- 4 DEPTH: depth rule broken, or depth over 31
 unfoldable pub badDepth : List Node → ℕ → Bool
-badDepth p k = not (depthRule leastLater p k) || leb mostLevels (depthAt p k)
+badDepth p k = not (depthRule p k) || leb mostLevels (depthAt p k)
 
 -- 5 TITLE: start + length past the title bytes, or length over 1,024
 unfoldable pub badTitle : List ℕ → List ℕ → ℕ → Bool
