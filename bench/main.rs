@@ -29,6 +29,15 @@ extern "C" {
         picture: *const u8, picture_length: usize, canvas: *mut u32, canvas_length: usize,
         table: *mut u32, table_length: usize, titles: *mut u8, titles_length: usize, answer: *mut [u64; 5],
     );
+    // with fitted boxes, if `fitted` is not 0
+    fn girthladder_text_as(
+        table: *const u32, table_length: usize, titles: *const u8, titles_length: usize, fitted: u32,
+        canvas: *mut u32, canvas_length: usize, out: *mut u8, out_length: usize, answer: *mut [u64; 5],
+    );
+    fn girthladder_read_as(
+        picture: *const u8, picture_length: usize, fitted: u32, canvas: *mut u32, canvas_length: usize,
+        table: *mut u32, table_length: usize, titles: *mut u8, titles_length: usize, answer: *mut [u64; 5],
+    );
 }
 
 type Pairs = Vec<(usize, String)>;
@@ -82,6 +91,26 @@ impl Lent {
         five
     }
 
+    fn fitted(&mut self) -> [u64; 5] {
+        let mut five = [0; 5];
+        unsafe {
+            girthladder_text_as(
+                self.table.as_ptr(), self.table.len(), self.titles.as_ptr(), self.titles.len(), 1,
+                self.canvas.as_mut_ptr(), self.canvas.len(), self.out.as_mut_ptr(), self.out.len(), &mut five,
+            )
+        }
+        five
+    }
+
+    // Lends the cells that a drawing needs, which it tells when it has none, and 5 bytes of output for each; how many cells.
+    fn lend(&mut self, draw: fn(&mut Lent) -> [u64; 5]) -> usize {
+        self.canvas.clear();
+        let cells = draw(self)[1] as usize;
+        self.canvas = vec![0; cells];
+        self.out = vec![0; 5 * cells];
+        cells
+    }
+
     fn dot(&mut self) -> [u64; 5] {
         let mut five = [0; 5];
         unsafe {
@@ -103,6 +132,10 @@ struct Read {
 }
 
 impl Read {
+    fn new(picture: Vec<u8>, cells: usize) -> Read {
+        Read { canvas: vec![0; cells], table: vec![0; 768], titles: vec![0; picture.len()], picture }
+    }
+
     fn read(&mut self) -> [u64; 5] {
         let mut five = [0; 5];
         unsafe {
@@ -112,6 +145,22 @@ impl Read {
             )
         }
         five
+    }
+
+    fn fitted(&mut self) -> [u64; 5] {
+        let mut five = [0; 5];
+        unsafe {
+            girthladder_read_as(
+                self.picture.as_ptr(), self.picture.len(), 1, self.canvas.as_mut_ptr(), self.canvas.len(),
+                self.table.as_mut_ptr(), self.table.len(), self.titles.as_mut_ptr(), self.titles.len(), &mut five,
+            )
+        }
+        five
+    }
+
+    // It was read as this plan.
+    fn is(&self, five: [u64; 5], lent: &Lent) -> bool {
+        five[0] == 0 && self.table[..lent.table.len()] == lent.table[..] && self.titles[..lent.titles.len()] == lent.titles[..]
     }
 }
 
@@ -250,6 +299,22 @@ fn table(title: &str, dot: bool, rounds: usize, lend: fn(&mut Lent, usize, usize
     }
 }
 
+// One line of a table: two calls in turn, the second beside the first, with the cells and bytes of the second.
+fn beside(name: &str, cells: usize, bytes: usize, rounds: usize, first: &mut dyn FnMut(), second: &mut dyn FnMut()) {
+    let times = race(&mut [first, second], rounds);
+    println!(
+        "| {} | {} | {} | {:.0} | {:.0} | {:.2} | {:.2} | {:.2} |",
+        name,
+        cells,
+        bytes,
+        times[0].0,
+        times[1].0,
+        times[1].0 / times[0].0,
+        times[1].1 / times[0].1,
+        times[1].0 / cells as f64,
+    );
+}
+
 // Reading back, beside the drawing of the same plan.
 fn readings(rounds: usize) {
     println!("\nReading back, beside drawing with 5 bytes of output lent for each cell:\n");
@@ -258,31 +323,77 @@ fn readings(rounds: usize) {
     for (name, pairs) in plans() {
         let text = theirs(&grow(&pairs, &mut 0), false).into_bytes();
         let mut lent = Lent::new(&pairs);
-        let cells = lent.text()[1] as usize;
-        lent.canvas = vec![0; cells];
-        lent.out = vec![0; 5 * cells];
-        let mut back = Read { canvas: vec![0; cells], table: vec![0; 768], titles: vec![0; text.len()], picture: text };
+        let cells = lent.lend(Lent::text);
+        let mut back = Read::new(text, cells);
         let five = back.read();
-        let (entries, bytes) = (lent.table.len(), lent.titles.len());
-        assert!(five[0] == 0 && back.table[..entries] == lent.table[..] && back.titles[..bytes] == lent.titles[..], "{name}: it is read back as another plan");
-        let times = race(
-            &mut [
-                &mut || { keep(lent.text()); },
-                &mut || { keep(back.read()); },
-            ],
-            rounds,
-        );
-        println!(
-            "| {} | {} | {} | {:.0} | {:.0} | {:.2} | {:.2} | {:.2} |",
-            name,
-            cells,
-            back.picture.len(),
-            times[0].0,
-            times[1].0,
-            times[1].0 / times[0].0,
-            times[1].1 / times[0].1,
-            times[1].0 / cells as f64,
-        );
+        assert!(back.is(five, &lent), "{name}: it is read back as another plan");
+        let bytes = back.picture.len();
+        beside(name, cells, bytes, rounds, &mut || { keep(lent.text()); }, &mut || { keep(back.read()); });
+    }
+}
+
+// ---- fitted boxes, which the crate does not have: beside the byte mode on the same plan
+
+// The same plan, its letters Greek.
+fn greek(pairs: Pairs) -> Pairs {
+    let letter = |c: char| match c {
+        'a'..='z' => char::from_u32('α' as u32 + (c as u32 - 'a' as u32) % 25).unwrap(),
+        'A'..='Z' => char::from_u32('Α' as u32 + (c as u32 - 'A' as u32) % 17).unwrap(),
+        _ => c,
+    };
+    pairs.into_iter().map(|(depth, title)| (depth, title.chars().map(letter).collect())).collect()
+}
+
+// An x for each letter of more than one byte, the drawing's own marks aside. (No title of these plans holds one of those.)
+fn narrow(text: &str) -> String {
+    text.chars().map(|c| if c.is_ascii() || ('\u{2500}'..='\u{257f}').contains(&c) { c } else { 'x' }).collect()
+}
+
+// The fitted drawing of a plan: with narrow letters it is what the crate draws of the plan with narrow letters.
+fn fitted_text(name: &str, pairs: &Pairs, lent: &mut Lent) -> Vec<u8> {
+    let five = lent.fitted();
+    let text = lent.out[..five[1] as usize].to_vec();
+    let narrowed = pairs.iter().map(|(depth, title)| (*depth, narrow(title))).collect();
+    let expected = theirs(&grow(&narrowed, &mut 0), false);
+    assert!(five[0] == 0 && narrow(std::str::from_utf8(&text).unwrap()) == expected, "{name}: fitted, it is drawn otherwise");
+    text
+}
+
+fn fitted_plans() -> Vec<(String, Pairs)> {
+    let mut all: Vec<_> = plans().into_iter().map(|(name, pairs)| (name.to_string(), pairs)).collect();
+    for k in [2, 3] {
+        let (name, pairs) = all[k].clone();
+        all.push((name + ", in Greek", greek(pairs)));
+    }
+    all
+}
+
+// Drawing, and reading what was drawn, in both modes.
+fn fitted(rounds: usize) {
+    let head = |title: &str| {
+        println!("\n{title}, beside the byte mode on the same plan:\n");
+        println!("| plan | cells | bytes | byte mode, ns | fitted, ns | fitted / byte mode | middle round | ns a cell |");
+        println!("|---|---|---|---|---|---|---|---|");
+    };
+    head("Fitted boxes, text, with 5 bytes of output lent for each cell");
+    for (name, pairs) in fitted_plans() {
+        let (mut wide, mut lent) = (Lent::new(&pairs), Lent::new(&pairs));
+        wide.lend(Lent::text);
+        assert!(wide.text()[0] == 0, "{name}: it is not drawn");
+        let cells = lent.lend(Lent::fitted);
+        let bytes = fitted_text(&name, &pairs, &mut lent).len();
+        beside(&name, cells, bytes, rounds, &mut || { keep(wide.text()); }, &mut || { keep(lent.fitted()); });
+    }
+    head("Fitted boxes, reading back");
+    for (name, pairs) in fitted_plans() {
+        let mut lent = Lent::new(&pairs);
+        let mut wide = Read::new(theirs(&grow(&pairs, &mut 0), false).into_bytes(), lent.lend(Lent::text));
+        let cells = lent.lend(Lent::fitted);
+        let mut back = Read::new(fitted_text(&name, &pairs, &mut lent), cells);
+        let fives = (wide.read(), back.fitted());
+        assert!(wide.is(fives.0, &lent) && back.is(fives.1, &lent), "{name}: it is read back as another plan");
+        let bytes = back.picture.len();
+        beside(&name, cells, bytes, rounds, &mut || { keep(wide.read()); }, &mut || { keep(back.fitted()); });
     }
 }
 
@@ -307,4 +418,5 @@ fn main() {
         lent.out = vec![0; bytes];
     });
     readings(rounds);
+    fitted(rounds);
 }

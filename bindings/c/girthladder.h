@@ -58,6 +58,12 @@ enum girthladder_number {
     GIRTHLADDER_UNDRAWN = 10 /* no ordinary plan is drawn as this picture, reading only: 0 */
 };
 
+/* How a drawing looks, for the functions that end in `_as`: a sum of these switches. 0 is the crate's look, that of girthladder_text.
+ * A switch that has no name here is not looked at; leave it 0, since a later one may get the name. */
+enum girthladder_look {
+    GIRTHLADDER_FITTED = 1 /* a line's length is its code points, not its bytes, so boxes fit Greek and accented titles */
+};
+
 /* What a function answers: all five numbers are written by every call. */
 struct girthladder_answer {
     uint64_t number;   /* one of enum girthladder_number */
@@ -78,6 +84,14 @@ void girthladder_text(const uint32_t *table, size_t table_length,
                       uint32_t *canvas, size_t canvas_length,
                       uint8_t *out, size_t out_length,
                       struct girthladder_answer *answer);
+
+/* The same in this look. */
+void girthladder_text_as(const uint32_t *table, size_t table_length,
+                         const uint8_t *titles, size_t titles_length,
+                         uint32_t look,
+                         uint32_t *canvas, size_t canvas_length,
+                         uint8_t *out, size_t out_length,
+                         struct girthladder_answer *answer);
 
 /* Writes the plan as the graph of the crate polars-plan, titles as they are.
  *   DONE    out[0 .. second) holds the graph, with no '\n' at its end. What lies beyond is unchanged.
@@ -114,6 +128,16 @@ void girthladder_read(const uint8_t *picture, size_t picture_length,
                       uint32_t *table, size_t table_length,
                       uint8_t *titles, size_t titles_length,
                       struct girthladder_answer *answer);
+
+/* The same of a picture in this look: it is accepted exactly when some ordinary plan is drawn as those very bytes by girthladder_text_as
+ * in it. A picture that was drawn in another look is UNDRAWN, unless it is a drawing in this one too, as where no title has a letter of
+ * more than one byte; then it is the same plan. */
+void girthladder_read_as(const uint8_t *picture, size_t picture_length,
+                         uint32_t look,
+                         uint32_t *canvas, size_t canvas_length,
+                         uint32_t *table, size_t table_length,
+                         uint8_t *titles, size_t titles_length,
+                         struct girthladder_answer *answer);
 
 #ifdef __cplusplus
 }

@@ -285,6 +285,44 @@ static void two_roots(void) {
     forget(&p);
 }
 
+/* "π" in each look, and the example: drawn, and read in each. Unnamed switches are not looked at. */
+static void each_look(void) {
+    static const uint32_t alone[] = {0, 0, 2}, three[] = {0, 0, 1, 1, 1, 1, 1, 2, 1};
+    static const char fitted[] =
+        "        0\n"
+        "   ┌───────\n"
+        "   │\n"
+        "   │  ╭───╮\n"
+        " 0 │  │ π │\n"
+        "   │  ╰───╯\n";
+    struct plan greek = plan(alone, 3, "\xCF\x80", 2), plain = plan(three, 9, "abc", 3);
+    for (uint32_t k = 0; k < 8; k++) {
+        uint32_t drawn = k & 1 ? GIRTHLADDER_FITTED : 0, told = k & 2 ? GIRTHLADDER_FITTED : 0, unnamed = k & 4 ? 0xFFFF0000 : 0;
+        struct lent canvas = lend(4 * CELLS), out = lend(5 * CELLS), again = lend(4 * 768), titles = lend(99), five = lend(sizeof(struct girthladder_answer));
+        struct girthladder_answer *a = (struct girthladder_answer *)five.at;
+        girthladder_text_as((const uint32_t *)greek.table.at, 3, greek.titles.at, 2, drawn | unnamed, (uint32_t *)canvas.at, CELLS, out.at, 5 * CELLS, a);
+        CHECK(a->number == GIRTHLADDER_DONE && a->width == (drawn ? 11 : 12) && a->height == 6 && a->untitled == 0);
+        size_t bytes = (size_t)a->second;
+        if (drawn) CHECK(bytes == sizeof fitted - 1 && memcmp(out.at, fitted, bytes) == 0);
+        CHECK(marked(&out, bytes) && marked(&canvas, 4 * (drawn ? 66 : 72)));
+        girthladder_read_as(out.at, bytes, told | unnamed, (uint32_t *)canvas.at, CELLS, (uint32_t *)again.at, 768, titles.at, 99, a);
+        if (drawn == told) CHECK(is(*a, GIRTHLADDER_DONE, 1) && memcmp(again.at, alone, sizeof alone) == 0 && memcmp(titles.at, "\xCF\x80", 2) == 0);
+        else CHECK(is(*a, GIRTHLADDER_UNDRAWN, 0) && marked(&again, 0) && marked(&titles, 0));
+        girthladder_text_as((const uint32_t *)plain.table.at, 9, plain.titles.at, 3, drawn | unnamed, (uint32_t *)canvas.at, CELLS, out.at, 5 * CELLS, a);
+        CHECK(a->number == GIRTHLADDER_DONE && a->second == BYTES && a->width == 18 && memcmp(out.at, picture, BYTES) == 0);
+        girthladder_read_as(out.at, BYTES, told | unnamed, (uint32_t *)canvas.at, CELLS, (uint32_t *)again.at, 768, titles.at, 99, a);
+        CHECK(is(*a, GIRTHLADDER_DONE, 3) && memcmp(again.at, three, sizeof three) == 0 && memcmp(titles.at, "abc", 3) == 0);
+        CHECK(marked(&five, sizeof *a));
+        give_back(&canvas);
+        give_back(&out);
+        give_back(&again);
+        give_back(&titles);
+        give_back(&five);
+    }
+    forget(&greek);
+    forget(&plain);
+}
+
 int main(void) {
     const uint32_t table[] = {0, 0, 1, 1, 1, 1, 1, 2, 1}, untitled[] = {0, 0, 1, 1, 1, 0, 1, 1, 0};
     struct plan p = plan(table, 9, "abc", 3), empty = plan(NULL, 0, NULL, 0), lost = plan(untitled, 9, "abc", 3);
@@ -307,6 +345,7 @@ int main(void) {
         give_back(&out);
     }
     two_roots();
+    each_look();
     each_refusal();
     each_reading();
     forget(&p);

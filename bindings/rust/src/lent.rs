@@ -1,7 +1,7 @@
 //! The same on lent memory: nothing is allocated. A table has three numbers a node, as [`Plan::parts`](crate::Plan::parts) gives them;
 //! any table, any titles and any lengths are taken.
 
-use crate::Refusal;
+use crate::{Look, Refusal};
 
 // girthladder.h. An empty slice's pointer is never read through.
 extern "C" {
@@ -10,6 +10,18 @@ extern "C" {
         table_length: usize,
         titles: *const u8,
         titles_length: usize,
+        canvas: *mut u32,
+        canvas_length: usize,
+        out: *mut u8,
+        out_length: usize,
+        answer: *mut [u64; 5],
+    );
+    fn girthladder_text_as(
+        table: *const u32,
+        table_length: usize,
+        titles: *const u8,
+        titles_length: usize,
+        look: u32,
         canvas: *mut u32,
         canvas_length: usize,
         out: *mut u8,
@@ -37,6 +49,18 @@ extern "C" {
     fn girthladder_read(
         picture: *const u8,
         picture_length: usize,
+        canvas: *mut u32,
+        canvas_length: usize,
+        table: *mut u32,
+        table_length: usize,
+        titles: *mut u8,
+        titles_length: usize,
+        answer: *mut [u64; 5],
+    );
+    fn girthladder_read_as(
+        picture: *const u8,
+        picture_length: usize,
+        look: u32,
         canvas: *mut u32,
         canvas_length: usize,
         table: *mut u32,
@@ -79,8 +103,28 @@ pub fn text(table: &[u32], titles: &[u8], canvas: &mut [u32], out: &mut [u8]) ->
             &mut five,
         )
     };
-    let bytes = done(five, table, titles)?;
-    Ok(Drawing { bytes, width: five[2] as usize, height: five[3] as usize, untitled: five[4] as usize })
+    drawing(five, table, titles)
+}
+
+/// The same in this look.
+pub fn text_as(table: &[u32], titles: &[u8], look: Look, canvas: &mut [u32], out: &mut [u8]) -> Result<Drawing, Refusal> {
+    let mut five = [0; 5];
+    // SAFETY: four slices that do not overlap, lent for the call by pointer and length, and five numbers.
+    unsafe {
+        girthladder_text_as(
+            table.as_ptr(),
+            table.len(),
+            titles.as_ptr(),
+            titles.len(),
+            look.switches(),
+            canvas.as_mut_ptr(),
+            canvas.len(),
+            out.as_mut_ptr(),
+            out.len(),
+            &mut five,
+        )
+    };
+    drawing(five, table, titles)
 }
 
 /// Writes the crate's graph to the front of `out` and answers its bytes; a refusal leaves `out` unchanged.
@@ -118,6 +162,38 @@ pub fn read(picture: &[u8], canvas: &mut [u32], table: &mut [u32], titles: &mut 
             &mut five,
         )
     };
+    nodes(five)
+}
+
+/// The same of a picture in this look.
+pub fn read_as(picture: &[u8], look: Look, canvas: &mut [u32], table: &mut [u32], titles: &mut [u8]) -> Result<usize, Refusal> {
+    let mut five = [0; 5];
+    // SAFETY: four slices that do not overlap, lent for the call by pointer and length, and five numbers.
+    unsafe {
+        girthladder_read_as(
+            picture.as_ptr(),
+            picture.len(),
+            look.switches(),
+            canvas.as_mut_ptr(),
+            canvas.len(),
+            table.as_mut_ptr(),
+            table.len(),
+            titles.as_mut_ptr(),
+            titles.len(),
+            &mut five,
+        )
+    };
+    nodes(five)
+}
+
+// The drawing, or the refusal.
+fn drawing(five: [u64; 5], table: &[u32], titles: &[u8]) -> Result<Drawing, Refusal> {
+    let bytes = done(five, table, titles)?;
+    Ok(Drawing { bytes, width: five[2] as usize, height: five[3] as usize, untitled: five[4] as usize })
+}
+
+// The nodes that were read, or the refusal.
+fn nodes(five: [u64; 5]) -> Result<usize, Refusal> {
     match five[0] {
         0 => Ok(five[1] as usize),
         number => Err(Refusal::of_reading(number, five[1])),

@@ -9,13 +9,23 @@
 //! ```
 //!
 //! [`draw`], [`dot`] and [`fenced`] lend what is needed and answer a `String`, [`read`] a [`Plan`]; [`lent`] has the same on memory of the
-//! caller's.
+//! caller's. [`draw_as`] and [`read_as`] take a [`Look`], such as boxes that fit Greek and accented titles:
+//!
+//! ```
+//! use girthladder::{Look, Plan};
+//! let plan: Plan = [(0, "λόγος")].into_iter().collect();
+//! let fitted = Look::new().fitted();
+//! let text = girthladder::draw_as(&plan, fitted).unwrap();
+//! assert_eq!(girthladder::read_as(&text, fitted).unwrap(), plan);
+//! ```
 
+mod look;
 mod plan;
 mod refusal;
 
 pub mod lent;
 
+pub use look::Look;
 pub use plan::Plan;
 pub use refusal::Refusal;
 
@@ -30,17 +40,12 @@ pub const MOST_CELLS: usize = 1048576;
 
 /// The drawing: lines in UTF-8, each with its line break.
 pub fn draw(plan: &Plan) -> Result<String, Refusal> {
-    let (table, titles) = plan.parts();
-    let cells = match lent::text(table, titles, &mut [], &mut []) {
-        Err(Refusal::Canvas { needed }) => needed,
-        Err(refusal) => return Err(refusal),
-        Ok(_) => unreachable!("a drawing has cells"),
-    };
-    let mut canvas = vec![0; cells];
-    let mut out = vec![0; 5 * cells];
-    let drawing = lent::text(table, titles, &mut canvas, &mut out)?;
-    out.truncate(drawing.bytes);
-    Ok(text_of(out))
+    drawn(plan, lent::text)
+}
+
+/// The drawing in this look.
+pub fn draw_as(plan: &Plan, look: Look) -> Result<String, Refusal> {
+    drawn(plan, |table, titles, canvas, out| lent::text_as(table, titles, look, canvas, out))
 }
 
 /// The graph as the crate polars-plan writes it, titles as they are.
@@ -55,14 +60,39 @@ pub fn fenced(plan: &Plan) -> Result<String, Refusal> {
 
 /// The one ordinary plan (no title empty, no line of a title ending in a space, within the limits) that is drawn as these very bytes.
 pub fn read(picture: impl AsRef<[u8]>) -> Result<Plan, Refusal> {
-    let picture = picture.as_ref();
+    found(picture.as_ref(), lent::read)
+}
+
+/// The same of a picture in this look. One that was drawn in another look is `Undrawn`, unless it is a drawing in this one too, as where
+/// titles are ASCII; then it is the same plan.
+pub fn read_as(picture: impl AsRef<[u8]>, look: Look) -> Result<Plan, Refusal> {
+    found(picture.as_ref(), |picture, canvas, table, titles| lent::read_as(picture, look, canvas, table, titles))
+}
+
+// A drawing on as many cells as it needs.
+fn drawn(plan: &Plan, text: impl Fn(&[u32], &[u8], &mut [u32], &mut [u8]) -> Result<lent::Drawing, Refusal>) -> Result<String, Refusal> {
+    let (table, titles) = plan.parts();
+    let cells = match text(table, titles, &mut [], &mut []) {
+        Err(Refusal::Canvas { needed }) => needed,
+        Err(refusal) => return Err(refusal),
+        Ok(_) => unreachable!("a drawing has cells"),
+    };
+    let mut canvas = vec![0; cells];
+    let mut out = vec![0; 5 * cells];
+    let drawing = text(table, titles, &mut canvas, &mut out)?;
+    out.truncate(drawing.bytes);
+    Ok(text_of(out))
+}
+
+// The plan that is read off a picture on as many cells as it needs.
+fn found(picture: &[u8], read: impl Fn(&[u8], &mut [u32], &mut [u32], &mut [u8]) -> Result<usize, Refusal>) -> Result<Plan, Refusal> {
     let (mut table, mut titles) = (vec![0; 3 * MOST_NODES], vec![0; picture.len()]);
-    let cells = match lent::read(picture, &mut [], &mut table, &mut titles) {
+    let cells = match read(picture, &mut [], &mut table, &mut titles) {
         Err(Refusal::Canvas { needed }) => needed,
         Err(refusal) => return Err(refusal),
         Ok(_) => unreachable!("a picture has cells"),
     };
-    let nodes = lent::read(picture, &mut vec![0; cells], &mut table, &mut titles)?;
+    let nodes = read(picture, &mut vec![0; cells], &mut table, &mut titles)?;
     table.truncate(3 * nodes);
     titles.truncate(table.chunks(3).map(|node| node[2] as usize).sum());
     Ok(Plan::of_parts(table, titles))

@@ -1,5 +1,5 @@
 //! Document 01's example and every refusal, through `draw`, `dot`, `fenced`, `read` and on lent memory with marked numbers around each buffer.
-use girthladder::{dot, draw, fenced, lent, read, Plan, Refusal};
+use girthladder::{dot, draw, draw_as, fenced, lent, read, read_as, Look, Plan, Refusal};
 
 const PICTURE: &str = "        0      1
    ┌──────────────
@@ -166,6 +166,33 @@ fn drawings_are_read_back() {
     assert_eq!(read(draw(&plan(&[(0, "A"), (1, "B"), (1, ""), (2, "C")])).unwrap()), Err(Refusal::Undrawn));
     assert_eq!(read(draw(&plan(&[(0, "a ")])).unwrap()), Err(Refusal::Undrawn));
     assert_eq!(read(draw(&plan(&[(0, "ab\na ")])).unwrap()), Ok(plan(&[(0, "ab\na")])));
+}
+
+#[test]
+fn each_look() {
+    let (crates, fitted) = (Look::new(), Look::new().fitted());
+    assert_eq!((Look::default(), fitted.fitted()), (crates, fitted));
+    let greek = plan(&[(0, "π")]);
+    assert_eq!(draw_as(&greek, crates), draw(&greek));
+    assert!(draw(&greek).unwrap().contains("╭────╮") && draw_as(&greek, fitted).unwrap().contains("   │  ╭───╮\n 0 │  │ π │\n"));
+    for p in [greek, plan(&[(0, "λόγος"), (1, "é\ne\u{301}"), (1, "𝄞𝄞"), (1, "a\u{3000}")])] {
+        assert_eq!(read_as(draw_as(&p, fitted).unwrap(), fitted), Ok(p.clone()));
+        assert_eq!(read(draw_as(&p, fitted).unwrap()), Err(Refusal::Undrawn));
+        assert_eq!(read_as(draw(&p).unwrap(), fitted), Err(Refusal::Undrawn));
+    }
+    // a drawing in both: ASCII titles, and a box whose longest line is as long in code points as in bytes
+    for p in [example(), plan(&[(0, "π\nab")])] {
+        assert_eq!(draw_as(&p, fitted), draw(&p));
+        assert_eq!(read_as(draw(&p).unwrap(), fitted), Ok(p));
+    }
+    let (mut canvas, mut out) = ([0xA5A5A5A5; 80], [0xA5; 400]);
+    let drawing = lent::text_as(&[0, 0, 2], "π".as_bytes(), fitted, &mut canvas, &mut out).unwrap();
+    assert_eq!((drawing.width, drawing.height, drawing.untitled), (11, 6, 0));
+    assert!(unchanged(&canvas[66..], &out[drawing.bytes..]));
+    assert_eq!(lent::text_as(&[0, 0, 2], "π".as_bytes(), fitted, &mut canvas[..65], &mut []), Err(Refusal::Canvas { needed: 66 }));
+    let (mut table, mut titles) = ([0; 3], [0; 2]);
+    assert_eq!(lent::read_as(&out[..drawing.bytes], fitted, &mut canvas, &mut table, &mut titles), Ok(1));
+    assert_eq!((table, &titles), ([0, 0, 2], "π".as_bytes().try_into().unwrap()));
 }
 
 #[test]

@@ -5,6 +5,9 @@ mod line;
 use plan_file::word;
 use plan_file::words;
 use rules::Answer;
+use rules::Drawing;
+use rules::Measure;
+use rules::Reading;
 use text::wide;
 
 // Ends the run at a request that is none.
@@ -13,26 +16,56 @@ fn bad() -> bool {
     false
 }
 
+// The kinds of request, and the looks that each takes: 1, fitted boxes, for a drawing and for a picture.
+fn known(kind: u32, look: u32) -> bool {
+    if kind == 0 {
+        return look < 2;
+    }
+    if kind == 3 {
+        return look < 2;
+    }
+    if 0 < look {
+        return false;
+    }
+    kind < 5
+}
+
 // The answer of a graph.
-fn graph(op: u32, table: &[u32], titles: &[u8], out: &mut [u8]) -> Answer {
-    if op == 1 {
+fn graph(kind: u32, table: &[u32], titles: &[u8], out: &mut [u8]) -> Answer {
+    if kind == 1 {
         return tree_format::tree_fmt_dot(table, titles, out);
     }
     tree_format::tree_fmt_fenced(table, titles, out)
 }
 
+// The answer of a drawing in this look.
+fn drawing(look: u32, table: &[u32], titles: &[u8], cells: &mut [u32], out: &mut [u8]) -> Drawing {
+    if look == 0 {
+        return tree_format::tree_fmt_text(table, titles, cells, out);
+    }
+    tree_format::draw(table, titles, Measure::Points, cells, out)
+}
+
 // Draws a plan or its graph, and prints the answer.
-fn draw_plan(op: u32, table: &[u32], titles: &[u8], cells: &mut [u32], out: &mut [u8]) {
-    if op == 0 {
-        line::print_drawing(tree_format::tree_fmt_text(table, titles, cells, out));
+fn draw_plan(
+    kind: u32,
+    look: u32,
+    table: &[u32],
+    titles: &[u8],
+    cells: &mut [u32],
+    out: &mut [u8],
+) {
+    if kind == 0 {
+        line::print_drawing(drawing(look, table, titles, cells, out));
         return;
     }
-    line::print_graph(graph(op, table, titles, out));
+    line::print_graph(graph(kind, table, titles, out));
 }
 
 // The titles and the table of a payload: it is long enough, and has whole entries, as many as fit.
 fn plan_request(
-    op: u32,
+    kind: u32,
+    look: u32,
     payload: &[u8],
     table: &mut [u32],
     cells: &mut [u32],
@@ -59,24 +92,38 @@ fn plan_request(
         return false;
     }
     words(payload, end, &mut table[..n]);
-    draw_plan(op, &table[..n], &payload[4..end], cells, out);
+    draw_plan(kind, look, &table[..n], &payload[4..end], cells, out);
     true
 }
 
 // Answers with the lent memory as it is.
-fn draw(op: u32, payload: &[u8], table: &mut [u32], cells: &mut [u32], out: &mut [u8]) -> bool {
-    if op == 4 {
+fn draw(
+    kind: u32,
+    look: u32,
+    payload: &[u8],
+    table: &mut [u32],
+    cells: &mut [u32],
+    out: &mut [u8],
+) -> bool {
+    if kind == 4 {
         line::print_drawing(plan_file::draw_file(payload, cells, out));
         return true;
     }
-    plan_request(op, payload, table, cells, out)
+    plan_request(kind, look, payload, table, cells, out)
 }
 
 // Makes the lent memory fresh, answers, and sums the memory up.
-fn answer(op: u32, payload: &[u8], table: &mut [u32], cells: &mut [u32], out: &mut [u8]) -> bool {
+fn answer(
+    kind: u32,
+    look: u32,
+    payload: &[u8],
+    table: &mut [u32],
+    cells: &mut [u32],
+    out: &mut [u8],
+) -> bool {
     lent::fresh_cells(cells);
     lent::fresh_bytes(out);
-    if !draw(op, payload, table, cells, out) {
+    if !draw(kind, look, payload, table, cells, out) {
         return bad();
     }
     line::print_sums(lent::sum_cells(cells), lent::sum_bytes(out), 0);
@@ -84,11 +131,11 @@ fn answer(op: u32, payload: &[u8], table: &mut [u32], cells: &mut [u32], out: &m
 }
 
 // The cells that a request lends: graphs use none.
-fn cells_of(op: u32, asked: usize) -> usize {
-    if op == 1 {
+fn cells_of(kind: u32, asked: usize) -> usize {
+    if kind == 1 {
         return 0;
     }
-    if op == 2 {
+    if kind == 2 {
         return 0;
     }
     asked
@@ -96,19 +143,17 @@ fn cells_of(op: u32, asked: usize) -> usize {
 
 // Reads the payload of a request whose head was read, and answers it.
 fn request(
+    kind: u32,
+    look: u32,
     head: &[u8],
     input: &mut [u8],
     table: &mut [u32],
     cells: &mut [u32],
     out: &mut [u8],
 ) -> bool {
-    let op = word(head, 0);
-    let lent1 = cells_of(op, wide(word(head, 4)));
+    let lent1 = cells_of(kind, wide(word(head, 4)));
     let lent2 = wide(word(head, 8));
     let size = wide(word(head, 16));
-    if 4 < op {
-        return bad();
-    }
     if cells.len() < lent1 {
         return bad();
     }
@@ -123,7 +168,8 @@ fn request(
         return bad();
     }
     answer(
-        op,
+        kind,
+        look,
         &input[..size],
         table,
         &mut cells[..lent1],
@@ -131,12 +177,32 @@ fn request(
     )
 }
 
+// The reading of a picture in this look.
+fn read(
+    look: u32,
+    picture: &[u8],
+    cells: &mut [u32],
+    table: &mut [u32],
+    titles: &mut [u8],
+) -> Reading {
+    if look == 0 {
+        return picture::read(picture, cells, table, titles);
+    }
+    picture::read_as(picture, Measure::Points, cells, table, titles)
+}
+
 // Reads a picture with all lent memory fresh, prints the answer, and sums the memory up.
-fn read_picture(picture: &[u8], cells: &mut [u32], table: &mut [u32], titles: &mut [u8]) -> bool {
+fn read_picture(
+    look: u32,
+    picture: &[u8],
+    cells: &mut [u32],
+    table: &mut [u32],
+    titles: &mut [u8],
+) -> bool {
     lent::fresh_cells(cells);
     lent::fresh_cells(table);
     lent::fresh_bytes(titles);
-    line::print_reading(picture::read(picture, cells, table, titles));
+    line::print_reading(read(look, picture, cells, table, titles));
     line::print_sums(
         lent::sum_cells(cells),
         lent::sum_cells(table),
@@ -147,6 +213,7 @@ fn read_picture(picture: &[u8], cells: &mut [u32], table: &mut [u32], titles: &m
 
 // Reads the picture of a request whose head was read, and answers it.
 fn reading(
+    look: u32,
     head: &[u8],
     input: &mut [u8],
     table: &mut [u32],
@@ -177,6 +244,7 @@ fn reading(
         return bad();
     }
     read_picture(
+        look,
         &input[..size],
         &mut cells[..lent1],
         &mut table[..lent2],
@@ -184,7 +252,7 @@ fn reading(
     )
 }
 
-// Answers a request whose head was read: op 3 has a picture to read.
+// Answers a request whose head was read: kind 3 has a picture to read. (op = kind + 256 × look.)
 fn asked(
     head: &[u8],
     input: &mut [u8],
@@ -192,10 +260,16 @@ fn asked(
     cells: &mut [u32],
     out: &mut [u8],
 ) -> bool {
-    if word(head, 0) == 3 {
-        return reading(head, input, table, cells, out);
+    let op = word(head, 0);
+    let kind = op % 256;
+    let look = op / 256;
+    if !known(kind, look) {
+        return bad();
     }
-    request(head, input, table, cells, out)
+    if kind == 3 {
+        return reading(look, head, input, table, cells, out);
+    }
+    request(kind, look, head, input, table, cells, out)
 }
 
 // Answers the next request, if there is one.

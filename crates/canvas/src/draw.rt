@@ -5,17 +5,12 @@ ghost use Prim.Native.Nat.{_+_, _*_, _-_, _≤_, _<_, _^_};
 ghost use lib.ListN.{length, drop, replicate};
 ghost use Rattle.rules.specs.Strokes.{across, down, write, dot};
 ghost use Rattle.rules.specs.Lines.{digits};
-ghost use Rattle.rules.specs.Drawing.{boxes, frame};
+ghost use Rattle.rules.specs.Drawing.{frame};
+ghost use Rattle.rules.specs.Look.{marksIn};
 ghost use Rattle.canvas.specs.Stroked.{stroked};
-use crate::glyphs::BOTTOM_LEFT;
-use crate::glyphs::BOTTOM_RIGHT;
-use crate::glyphs::CORNER;
-use crate::glyphs::HORIZONTAL;
-use crate::glyphs::TOP_LEFT;
-use crate::glyphs::TOP_RIGHT;
-use crate::glyphs::VERTICAL;
 use crate::glyphs::VOID;
 use crate::row;
+use rules::Glyphs;
 
 // The size of a canvas.
 pub struct Size {
@@ -84,36 +79,63 @@ pub fn index(cells: &mut [u32], size: Size, x: u32, y: u32, n: u32)
 }
 
 // Puts a border from (x, y) on: a corner, t + 2 horizontal marks, a corner.
-fn border(cells: &mut [u32], size: Size, x: u32, y: u32, t: u32, left: u32, right: u32)
+fn border(
+    cells: &mut [u32],
+    size: Size,
+    x: u32,
+    y: u32,
+    t: u32,
+    left: u32,
+    horizontal: u32,
+    right: u32,
+)
     requires { ⌜ (size .width * size .height ≤ length (now cells)) × (x + t + 3 < 2 ^ 32) ⌝ }
     ensures { λ _. ⌜ now (cells .exit)
-        ≡ stroked (size .width) (size .height) (dot x y left ∷ across (x + 1) y (t + 2) 0x2500 ∷ dot (x + t + 3) y right ∷ []) (now (cells .entry)) ⌝ }
+        ≡ stroked (size .width) (size .height) (dot x y left ∷ across (x + 1) y (t + 2) horizontal ∷ dot (x + t + 3) y right ∷ []) (now (cells .entry)) ⌝ }
 {
     symbol(cells, size, x, y, left);
-    across(cells, size, x + 1, y, t + 2, HORIZONTAL);
+    across(cells, size, x + 1, y, t + 2, horizontal);
     symbol(cells, size, x + t + 3, y, right);
 }
 
 // Draws a box with the top left corner (x, y) around n rows of t marks.
-pub(crate) fn draw_box(cells: &mut [u32], size: Size, x: u32, y: u32, t: u32, n: u32)
+pub(crate) fn draw_box(cells: &mut [u32], size: Size, x: u32, y: u32, t: u32, n: u32, marks: Glyphs)
     requires { ⌜ (size .width * size .height ≤ length (now cells)) × (x + t < 2 ^ 31) × (y + n < 2 ^ 31) ⌝ }
-    ensures { λ _. ⌜ now (cells .exit) ≡ stroked (size .width) (size .height) (frame boxes x y t n) (now (cells .entry)) ⌝ }
+    ensures { λ _. ⌜ now (cells .exit) ≡ stroked (size .width) (size .height) (frame (marksIn marks) x y t n) (now (cells .entry)) ⌝ }
 {
-    border(cells, size, x, y, t, TOP_LEFT, TOP_RIGHT);
-    down(cells, size, x, y + 1, n, VERTICAL);
-    down(cells, size, x + t + 3, y + 1, n, VERTICAL);
-    border(cells, size, x, y + n + 1, t, BOTTOM_LEFT, BOTTOM_RIGHT);
+    border(
+        cells,
+        size,
+        x,
+        y,
+        t,
+        marks.northwest,
+        marks.horizontal,
+        marks.northeast,
+    );
+    down(cells, size, x, y + 1, n, marks.vertical);
+    down(cells, size, x + t + 3, y + 1, n, marks.vertical);
+    border(
+        cells,
+        size,
+        x,
+        y + n + 1,
+        t,
+        marks.southwest,
+        marks.horizontal,
+        marks.southeast,
+    );
 }
 
 // Draws the axis from (x, 1) on.
-pub fn draw_axis(cells: &mut [u32], size: Size, x: u32)
+pub fn draw_axis(cells: &mut [u32], size: Size, x: u32, marks: Glyphs)
     requires { ⌜ (size .width * size .height ≤ length (now cells)) × (x ≤ size .width) × (size .width < 2 ^ 31) × (0 < size .height) × (size .height < 2 ^ 31) ⌝ }
     ensures { λ _. ⌜ now (cells .exit)
         ≡ stroked (size .width) (size .height)
-        (dot x 1 0x250C ∷ across (x + 1) 1 (size .width - x) 0x2500 ∷ down x 2 (size .height - 1) 0x2502 ∷ [])
+        (dot x 1 (marks .corner) ∷ across (x + 1) 1 (size .width - x) (marks .horizontal) ∷ down x 2 (size .height - 1) (marks .vertical) ∷ [])
         (now (cells .entry)) ⌝ }
 {
-    symbol(cells, size, x, 1, CORNER);
-    across(cells, size, x + 1, 1, size.width - x, HORIZONTAL);
-    down(cells, size, x, 2, size.height - 1, VERTICAL);
+    symbol(cells, size, x, 1, marks.corner);
+    across(cells, size, x + 1, 1, size.width - x, marks.horizontal);
+    down(cells, size, x, 2, size.height - 1, marks.vertical);
 }

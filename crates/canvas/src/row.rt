@@ -70,12 +70,12 @@ fn letters_plain(row: &mut [u32], x: usize, line: &[u8])
     }
 }
 
-// Puts the code points of a valid line from x on, where all have room.
-fn letters_within(row: &mut [u32], x: usize, line: &[u8])
-    requires { ⌜ (valid (now line) ≡ true) × (x + length (now line) ≤ length (now row)) ⌝ }
+// Puts the code points of a valid line, which are `count`, from x on, where all have room. (As many as the bytes: none is above 7F.)
+fn letters_within(row: &mut [u32], x: usize, line: &[u8], count: usize)
+    requires { ⌜ (valid (now line) ≡ true) × (count ≡ length (points (now line))) × (x + length (now line) ≤ length (now row)) ⌝ }
     ensures { λ _. ⌜ now (row .exit) ≡ sets (now (row .entry)) x (points (now (line .entry))) ⌝ }
 {
-    if utf8_runs::plain(line) {
+    if count == line.len() {
         letters_plain(row, x, line);
         return;
     }
@@ -100,14 +100,14 @@ fn letters_clipped(row: &mut [u32], x: usize, line: &[u8])
     }
 }
 
-// Puts the code points of a valid line from x on.
-pub fn letters(row: &mut [u32], x: usize, line: &[u8])
-    requires { ⌜ valid (now line) ≡ true ⌝ }
+// Puts the code points of a valid line, which are `count`, from x on.
+pub fn letters(row: &mut [u32], x: usize, line: &[u8], count: usize)
+    requires { ⌜ (valid (now line) ≡ true) × (count ≡ length (points (now line))) ⌝ }
     ensures { λ _. ⌜ now (row .exit) ≡ sets (now (row .entry)) x (points (now (line .entry))) ⌝ }
 {
     if x <= row.len() {
         if line.len() <= row.len() - x {
-            letters_within(row, x, line);
+            letters_within(row, x, line, count);
             return;
         }
     }

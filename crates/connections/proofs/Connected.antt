@@ -17,7 +17,7 @@ use Rattle.rules.specs.Plan.{count, depthIn, planOf, depthAt}
 use Rattle.rules.specs.Levels.{Cell, columnAt, cellAt, view, inRow, children}
 use Rattle.rules.specs.Measures.{lineCount, height, rowOffset, rowCentre, cy, cx}
 use Rattle.rules.specs.Strokes.{Stroke}
-use Rattle.rules.specs.Drawing.{boxes, boxTop, boxBottom, bendRow, lineOf, teeUp, straight, bends, bend, connector}
+use Rattle.rules.specs.Drawing.{Marks, boxTop, boxBottom, bendRow, lineOf, teeUp, straight, bends, bend, connector}
 use Rattle.rules.proofs.Lists.{length-plan, depth-plan}
 use Rattle.rules.proofs.Columns.{keeps-row}
 use Rattle.rules.proofs.Bounds.{column-below, columns-few, row-below}
@@ -30,18 +30,18 @@ use Rattle.levels.proofs.Walks.{next-from, next-most, next-holds}
 use Rattle.levels.proofs.Between.{row-view, row-none}
 use Rattle.levels.proofs.Cells.{cell-deep, columns-order, row-rises}
 use Rattle.levels.proofs.Nodes.{nodes-mem, nodes-first, nodes-none, nodes-rise, cell-there, row-nodes, children-nodes}
-use Rattle.tree_view.specs.Measured.{linesAt}
+use Rattle.tree_view.specs.Measured.{Short, linesAt}
 use Rattle.tree_view.proofs.Limits.{bend-row, fits-height, cx-ge, cx-apart, cx-le, cy-le, rows-le}
 use Rattle.tree_view.proofs.Ruled.{view-rows}
 use Rattle.tree_view.proofs.Table.{small}
 use Rattle.connections.specs.Connect.{gapOf, lineAt, footAt, topAt, branchesAt, bendAt, connectorAt, childrenAt, connectionsAt, Spread}
 
 -- the arrays of a plan: the centres of the nodes' columns, and the lines of their cells
-pub record Held (T B middle lines : List ℕ) : Type 0 where
-  pub centred : (k : ℕ) → k < count T → getD middle k 0 ≡ cx length (view (planOf T B)) (columnAt (planOf T B) k)
+pub record Held (len : List ℕ → ℕ) (T B middle lines : List ℕ) : Type 0 where
+  pub centred : (k : ℕ) → k < count T → getD middle k 0 ≡ cx len (view (planOf T B)) (columnAt (planOf T B) k)
   pub lined : (k : ℕ) → k < count T → getD lines k 0 ≡ linesAt (planOf T B) k
 
-module _ {T B middle lines : List ℕ} (a : Accepted T B) (held : Held T B middle lines) where
+module _ (len : List ℕ → ℕ) (short : Short len) (marks : Marks) {T B middle lines : List ℕ} (a : Accepted T B) (held : Held len T B middle lines) where
   in-plan : (k : ℕ) → k < count T → k < length (planOf T B)
   in-plan k h = omega (arith, length-plan T B)
 
@@ -66,22 +66,22 @@ module _ {T B middle lines : List ℕ} (a : Accepted T B) (held : Held T B middl
 
   -- centres rise with columns
   centre-low : (k : ℕ) → k < count T → 1 ≤ getD middle k 0
-  centre-low k h = omega (arith, held .centred k h, cx-ge (planOf T B) (columnAt (planOf T B) k))
+  centre-low k h = omega (arith, held .centred k h, cx-ge len (planOf T B) (columnAt (planOf T B) k))
 
   centre-high : (k : ℕ) → k < count T → getD middle k 0 < 2147483648
   centre-high k h =
       omega (
         arith,
         held .centred k h,
-        cx-le (planOf T B) (small a) (columnAt (planOf T B) k) (omega (arith, column-below (planOf T B) k (in-plan k h), columns-few (planOf T B) (small a))),
+        cx-le len short (planOf T B) (small a) (columnAt (planOf T B) k) (omega (arith, column-below (planOf T B) k (in-plan k h), columns-few (planOf T B) (small a))),
       )
 
   centre-rises : (j k : ℕ) → j < count T → k < count T → columnAt (planOf T B) j < columnAt (planOf T B) k → getD middle j 0 + 6 ≤ getD middle k 0
   centre-rises j k g h l =
-      omega (arith, held .centred j g, held .centred k h, cx-apart (planOf T B) (columnAt (planOf T B) j) (columnAt (planOf T B) k) l)
+      omega (arith, held .centred j g, held .centred k h, cx-apart len (planOf T B) (columnAt (planOf T B) j) (columnAt (planOf T B) k) l)
 
   centre-same : (j k : ℕ) → j < count T → k < count T → columnAt (planOf T B) j ≡ columnAt (planOf T B) k → getD middle j 0 ≡ getD middle k 0
-  centre-same j k g h e = held .centred j g ∙ ap (cx length (view (planOf T B))) e ∙ sym (held .centred k h)
+  centre-same j k g h e = held .centred j g ∙ ap (cx len (view (planOf T B))) e ∙ sym (held .centred k h)
 
   -- the code can draw every row but the last
   pub spread : (i : ℕ) → i + 1 < view (planOf T B) .rows → Spread T (count T) middle lines (gapOf (view (planOf T B)) i)
@@ -111,7 +111,7 @@ module _ {T B middle lines : List ℕ} (a : Accepted T B) (held : Held T B middl
     unfolding linesAt greatest
     lines-cell = held .lined k h ∙ rw there (omega arith)
 
-    line-cell : lineAt middle k ≡ lineOf length (view (planOf T B)) (cellOf (planOf T B) k)
+    line-cell : lineAt middle k ≡ lineOf len (view (planOf T B)) (cellOf (planOf T B) k)
     unfolding lineOf
     line-cell = ap (λ n. n - 1) (held .centred k h)
 
@@ -140,8 +140,8 @@ module _ {T B middle lines : List ℕ} (a : Accepted T B) (held : Held T B middl
 
   -- the branches, the bend
   branches-cells : (i x : ℕ) (ks : List ℕ) → Below i ks
-      → branchesAt middle lines (gapOf (view (planOf T B)) i) x ks
-      ≡ bends length boxes (view (planOf T B)) (bendRow (view (planOf T B)) i) x (concat (cellAt (planOf T B)) ks)
+      → branchesAt marks middle lines (gapOf (view (planOf T B)) i) x ks
+      ≡ bends len marks (view (planOf T B)) (bendRow (view (planOf T B)) i) x (concat (cellAt (planOf T B)) ks)
   unfolding branchesAt bends teeUp concat Below
   branches-cells i x [] b = refl
   branches-cells i x (k ∷ ks) b =
@@ -152,12 +152,12 @@ module _ {T B middle lines : List ℕ} (a : Accepted T B) (held : Held T B middl
         cells-length i ks rest,
         line-cell (i + 1) k h c,
         top-cell i k h c,
-        branches-cells i (lineOf length (view (planOf T B)) (cellOf (planOf T B) k)) ks rest,
+        branches-cells i (lineOf len (view (planOf T B)) (cellOf (planOf T B) k)) ks rest,
       )
 
   bend-cells : (i x k : ℕ) (ks : List ℕ) → k < count T → cellIn T i k ≡ true → Below i ks
-      → bendAt middle lines (gapOf (view (planOf T B)) i) (footAt lines (gapOf (view (planOf T B)) i) k) x ks
-      ≡ bend length boxes (view (planOf T B)) (cellOf (planOf T B) k) (bendRow (view (planOf T B)) i) x (concat (cellAt (planOf T B)) ks)
+      → bendAt marks middle lines (gapOf (view (planOf T B)) i) (footAt lines (gapOf (view (planOf T B)) i) k) x ks
+      ≡ bend len marks (view (planOf T B)) (cellOf (planOf T B) k) (bendRow (view (planOf T B)) i) x (concat (cellAt (planOf T B)) ks)
   unfolding bendAt bend concat Below
   bend-cells i x k [] h c b = refl
   bend-cells i x k (m ∷ ks) h c b =
@@ -188,21 +188,21 @@ module _ {T B middle lines : List ℕ} (a : Accepted T B) (held : Held T B middl
   -- the rules' connector of cell c, over its drawn children and the bend row
   joined : Cell → ℕ → List Cell → List Stroke
   joined c b drawn =
-      concat (straight length boxes (view (planOf T B)) c) (keep (λ d. eqb (d .column) (c .column)) drawn)
-      ++ bend length boxes (view (planOf T B)) c b
-      (pick (eqb (length (keep (λ d. eqb (d .column) (c .column)) drawn)) 0) (lineOf length (view (planOf T B)) c) (cx length (view (planOf T B)) (c .column)))
+      concat (straight len marks (view (planOf T B)) c) (keep (λ d. eqb (d .column) (c .column)) drawn)
+      ++ bend len marks (view (planOf T B)) c b
+      (pick (eqb (length (keep (λ d. eqb (d .column) (c .column)) drawn)) 0) (lineOf len (view (planOf T B)) c) (cx len (view (planOf T B)) (c .column)))
       (keep (λ d. ltb (c .column) (d .column)) drawn)
 
   module _ (i k : ℕ) (h : k < count T) (c : cellIn T i k ≡ true) where
     -- no child,
-    joined-none : connectorAt middle lines (gapOf (view (planOf T B)) i) k []
+    joined-none : connectorAt marks middle lines (gapOf (view (planOf T B)) i) k []
         ≡ joined (cellOf (planOf T B) k) (bendRow (view (planOf T B)) i) (concat (cellAt (planOf T B)) [])
     unfolding joined connectorAt concat keep bend
     joined-none = refl
 
     -- all children further right,
     joined-bent : (m : ℕ) (ms : List ℕ) → Below i (m ∷ ms) → Right (columnAt (planOf T B) k) (m ∷ ms)
-        → connectorAt middle lines (gapOf (view (planOf T B)) i) k (m ∷ ms)
+        → connectorAt marks middle lines (gapOf (view (planOf T B)) i) k (m ∷ ms)
         ≡ joined (cellOf (planOf T B) k) (bendRow (view (planOf T B)) i) (concat (cellAt (planOf T B)) (m ∷ ms))
     unfolding joined connectorAt pick Below Right
     joined-bent m ms b r =
@@ -219,15 +219,15 @@ module _ {T B middle lines : List ℕ} (a : Accepted T B) (held : Held T B middl
 
     -- or the first straight below
     joined-straight : (m : ℕ) (ms : List ℕ) → Below i (m ∷ ms) → columnAt (planOf T B) m ≡ columnAt (planOf T B) k → Right (columnAt (planOf T B) k) ms
-        → connectorAt middle lines (gapOf (view (planOf T B)) i) k (m ∷ ms)
+        → connectorAt marks middle lines (gapOf (view (planOf T B)) i) k (m ∷ ms)
         ≡ joined (cellOf (planOf T B) k) (bendRow (view (planOf T B)) i) (concat (cellAt (planOf T B)) (m ∷ ms))
     unfolding joined connectorAt straight teeUp concat keep pick Below Right
     joined-straight m ms b q r =
         let (g, e) = b m (List·Memᴰ·head refl) in
         let rest : Below i ms = λ j n. b j (List·Memᴰ·tail n) in
         let x = columnAt (planOf T B) k in
-        let one : lineAt middle k + 1 ≡ cx length (view (planOf T B)) x = omega (arith, held .centred k h, centre-low k h) in
-        let same : lineOf length (view (planOf T B)) (cellOf (planOf T B) m) ≡ lineOf length (view (planOf T B)) (cellOf (planOf T B) k)
+        let one : lineAt middle k + 1 ≡ cx len (view (planOf T B)) x = omega (arith, held .centred k h, centre-low k h) in
+        let same : lineOf len (view (planOf T B)) (cellOf (planOf T B) m) ≡ lineOf len (view (planOf T B)) (cellOf (planOf T B) k)
         = sym (line-cell (i + 1) m g e) ∙ ap (λ n. n - 1) (centre-same m k g h q) ∙ line-cell i k h c in
         rw (
           there (i + 1) m g e,
@@ -237,7 +237,7 @@ module _ {T B middle lines : List ℕ} (a : Accepted T B) (held : Held T B middl
           all-right i x ms rest r,
           eq-eqb (getD middle m 0) (getD middle k 0) (centre-same m k g h q),
           one,
-          bend-cells i (cx length (view (planOf T B)) x) k ms h c rest,
+          bend-cells i (cx len (view (planOf T B)) x) k ms h c rest,
           line-cell i k h c,
           foot-cell i k h c,
           top-cell i m g e,
@@ -245,17 +245,17 @@ module _ {T B middle lines : List ℕ} (a : Accepted T B) (held : Held T B middl
         )
 
     -- the rules' connector by the children that the walk meets
-    by-children : connector length boxes (view (planOf T B)) (cellOf (planOf T B) k)
+    by-children : connector len marks (view (planOf T B)) (cellOf (planOf T B) k)
         ≡ joined (cellOf (planOf T B) k) (bendRow (view (planOf T B)) i)
-        (concat (cellAt (planOf T B)) (childrenAt middle lines (gapOf (view (planOf T B)) i) T (count T) k))
+        (concat (cellAt (planOf T B)) (childrenAt marks middle lines (gapOf (view (planOf T B)) i) T (count T) k))
     unfolding connector joined
     by-children =
         ap (λ r. joined (cellOf (planOf T B) k) (bendRow (view (planOf T B)) r) (children (view (planOf T B)) r (columnAt (planOf T B) k))) (cell-deep a i k h c)
         ∙ ap (joined (cellOf (planOf T B) k) (bendRow (view (planOf T B)) i)) (children-nodes a i k h c)
 
     -- what the code draws for the parent
-    connector-cells : connectorAt middle lines (gapOf (view (planOf T B)) i) k (childrenAt middle lines (gapOf (view (planOf T B)) i) T (count T) k)
-        ≡ connector length boxes (view (planOf T B)) (cellOf (planOf T B) k)
+    connector-cells : connectorAt marks middle lines (gapOf (view (planOf T B)) i) k (childrenAt marks middle lines (gapOf (view (planOf T B)) i) T (count T) k)
+        ≡ connector len marks (view (planOf T B)) (cellOf (planOf T B) k)
     unfolding Below Right
     connector-cells =
         let e = nextCell T (count T) (k + 1) i in
@@ -292,16 +292,16 @@ module _ {T B middle lines : List ℕ} (a : Accepted T B) (held : Held T B middl
       rw (e, q, concat-cells f g ks (λ j m. b j (List·Memᴰ·tail m)))
 
   -- what the code draws for all parents of row i
-  pub connections : (i : ℕ) → connectionsAt middle lines (gapOf (view (planOf T B)) i) T (count T)
-      ≡ concat (connector length boxes (view (planOf T B))) (inRow (view (planOf T B) .cells) i)
+  pub connections : (i : ℕ) → connectionsAt marks middle lines (gapOf (view (planOf T B)) i) T (count T)
+      ≡ concat (connector len marks (view (planOf T B))) (inRow (view (planOf T B) .cells) i)
   connections i =
-      concat-cells (λ k. connectorAt middle lines (gapOf (view (planOf T B)) i) k (childrenAt middle lines (gapOf (view (planOf T B)) i) T (count T) k))
-      (connector length boxes (view (planOf T B))) (nodesIn T 0 (count T) i)
+      concat-cells (λ k. connectorAt marks middle lines (gapOf (view (planOf T B)) i) k (childrenAt marks middle lines (gapOf (view (planOf T B)) i) T (count T) k))
+      (connector len marks (view (planOf T B))) (nodesIn T 0 (count T) i)
       (λ k m. let o = nodes-mem T 0 (count T) i m in (there i k (o .below) (o .has), connector-cells i k (o .below) (o .has)))
-      ∙ ap (concat (connector length boxes (view (planOf T B)))) (sym (row-nodes a i))
+      ∙ ap (concat (connector len marks (view (planOf T B)))) (sym (row-nodes a i))
 
 -- the last row has no children
-module _ {T B : List ℕ} (a : Accepted T B) where
+module _ (len : List ℕ → ℕ) (marks : Marks) {T B : List ℕ} (a : Accepted T B) where
   no-row : (i : ℕ) → view (planOf T B) .rows ≤ i → inRow (view (planOf T B) .cells) i ≡ []
   unfolding cellIn
   no-row i h =
@@ -311,19 +311,19 @@ module _ {T B : List ℕ} (a : Accepted T B) where
       rw (ne-eqb (depthIn T k) i
       (λ e. omega (arith, view-rows (planOf T B), row-below (planOf T B) k (omega (arith, length-plan T B)), depth-plan T B k l))))
 
-  childless : (i : ℕ) (c : Cell) → view (planOf T B) .rows ≤ i + 1 → c .row ≡ i → connector length boxes (view (planOf T B)) c ≡ []
+  childless : (i : ℕ) (c : Cell) → view (planOf T B) .rows ≤ i + 1 → c .row ≡ i → connector len marks (view (planOf T B)) c ≡ []
   unfolding connector children concat keep bend
   childless i c h e = rw (e, no-row (i + 1) h)
 
   all-childless : (i : ℕ) (cs : List Cell) → view (planOf T B) .rows ≤ i + 1 → ((c : Cell) → List·Memᴰ c cs → c .row ≡ i)
-      → concat (connector length boxes (view (planOf T B))) cs ≡ []
+      → concat (connector len marks (view (planOf T B))) cs ≡ []
   unfolding concat
   all-childless i [] h r = refl
   all-childless i (c ∷ cs) h r =
       rw (childless i c h (r c (List·Memᴰ·head refl))) (all-childless i cs h (λ d m. r d (List·Memᴰ·tail m)))
 
   pub connections-last : (i : ℕ) → view (planOf T B) .rows ≤ i + 1
-      → concat (connector length boxes (view (planOf T B))) (inRow (view (planOf T B) .cells) i) ≡ []
+      → concat (connector len marks (view (planOf T B))) (inRow (view (planOf T B) .cells) i) ≡ []
   unfolding inRow
   connections-last i h =
       all-childless i (inRow (view (planOf T B) .cells) i) h

@@ -10,6 +10,7 @@ use lib.Dec.{eqb, ltb}
 use lib.ListN.{length, getD}
 use borrow.Author.Tests.{eq-eqb, ne-eqb, lt-ltb, le-ltb}
 use Rattle.rules.specs.Base.{pick, concat}
+use Rattle.rules.specs.Drawing.{Marks}
 use Rattle.levels.specs.Cells.{cellIn, nextCell}
 use Rattle.levels.specs.Nodes.{nodesIn}
 use Rattle.levels.proofs.Walks.{next-from, next-most, next-holds}
@@ -90,10 +91,10 @@ module _ (T : List ℕ) (e : ℕ) (middle lines : List ℕ) (gap : Gap) where
         }
 
   -- the last child's mark
-  turns : (next turn : ℕ) → next ≤ e → (next < e → cellIn T (gap .depth + 1) next ≡ true) → turn ≡ pick (ltb next e) 0x252C 0x256E
-      → pick (eqb (length (nodesIn T next e (gap .depth + 1))) 0) 0x256E 0x252C ≡ turn
+  turns : (marks : Marks) (next turn : ℕ) → next ≤ e → (next < e → cellIn T (gap .depth + 1) next ≡ true) → turn ≡ pick (ltb next e) (marks .┬) (marks .╮)
+      → pick (eqb (length (nodesIn T next e (gap .depth + 1))) 0) (marks .╮) (marks .┬) ≡ turn
   unfolding pick
-  turns next turn w c t =
+  turns marks next turn w c t =
       elim (decLe e next) [
         | yes h ↦
             (let q : next ≡ e = omega arith in
@@ -107,37 +108,37 @@ module _ (T : List ℕ) (e : ℕ) (middle lines : List ℕ) (gap : Gap) where
             )
       ]
 
-  module _ (w h : ℕ) (l m : List ℕ) (room : w * h ≤ length l) where
+  module _ (marks : Marks) (w h : ℕ) (l m : List ℕ) (room : w * h ≤ length l) where
     -- one child more
     pub branches-more : (from k next turn top : ℕ) → Spread T e middle lines gap → Next T e (gap .depth + 1) middle from k → k < e
-        → next ≡ nextCell T e (k + 1) (gap .depth + 1) → turn ≡ pick (ltb next e) 0x252C 0x256E
-        → top ≡ topAt lines gap k → m ≡ stroked w h (branchAt from (gap .bend) (lineAt middle k) turn top) l
-        → stroked w h (branchesAt middle lines gap from (nodesIn T k e (gap .depth + 1))) l
-        ≡ stroked w h (branchesAt middle lines gap (lineAt middle k) (nodesIn T next e (gap .depth + 1))) m
+        → next ≡ nextCell T e (k + 1) (gap .depth + 1) → turn ≡ pick (ltb next e) (marks .┬) (marks .╮)
+        → top ≡ topAt lines gap k → m ≡ stroked w h (branchAt marks from (gap .bend) (lineAt middle k) turn top) l
+        → stroked w h (branchesAt marks middle lines gap from (nodesIn T k e (gap .depth + 1))) l
+        ≡ stroked w h (branchesAt marks middle lines gap (lineAt middle k) (nodesIn T next e (gap .depth + 1))) m
     unfolding branchesAt
     branches-more from k next turn top s b g n t o d =
         let r = next-right k next s g (b .found g) n in
-        rw (nodes-step T (gap .depth + 1) e k next g (b .found g) n, turns next turn (r .within) (r .found) t, d, o)
-        (stroked-append w h (branchAt from (gap .bend) (lineAt middle k) turn (topAt lines gap k))
-        (branchesAt middle lines gap (lineAt middle k) (nodesIn T next e (gap .depth + 1))) l room)
+        rw (nodes-step T (gap .depth + 1) e k next g (b .found g) n, turns marks next turn (r .within) (r .found) t, d, o)
+        (stroked-append w h (branchAt marks from (gap .bend) (lineAt middle k) turn (topAt lines gap k))
+        (branchesAt marks middle lines gap (lineAt middle k) (nodesIn T next e (gap .depth + 1))) l room)
 
     -- the stem, and all branches
     pub bend-drawn : (foot x k : ℕ) (b : List ℕ) → k < e → cellIn T (gap .depth + 1) k ≡ true
-        → m ≡ stroked w h (stemAt x foot (gap .bend)) l
-        → b ≡ stroked w h (branchesAt middle lines gap x (nodesIn T k e (gap .depth + 1))) m
-        → b ≡ stroked w h (bendAt middle lines gap foot x (nodesIn T k e (gap .depth + 1))) l
+        → m ≡ stroked w h (stemAt marks x foot (gap .bend)) l
+        → b ≡ stroked w h (branchesAt marks middle lines gap x (nodesIn T k e (gap .depth + 1))) m
+        → b ≡ stroked w h (bendAt marks middle lines gap foot x (nodesIn T k e (gap .depth + 1))) l
     unfolding bendAt
     bend-drawn foot x k b g c d f =
         let q = nodes-here T (gap .depth + 1) k e g c in
-        rw q (then w h (stemAt x foot (gap .bend)) (branchesAt middle lines gap x (k ∷ nodesIn T (k + 1) e (gap .depth + 1))) l m b room d (rw q at f))
+        rw q (then w h (stemAt marks x foot (gap .bend)) (branchesAt marks middle lines gap x (k ∷ nodesIn T (k + 1) e (gap .depth + 1))) l m b room d (rw q at f))
 
     -- a child straight below, and those further right
     pub straight-drawn : (p first second foot top : ℕ) (b : List ℕ) → p < e
         → first ≡ nextCell T e (p + 1) (gap .depth + 1) → first < e → second ≡ nextCell T e (first + 1) (gap .depth + 1)
         → getD middle first 0 ≡ getD middle p 0 → foot ≡ footAt lines gap p → top ≡ topAt lines gap first
-        → m ≡ stroked w h (straightAt (lineAt middle p) foot top) l
-        → b ≡ stroked w h (bendAt middle lines gap foot (lineAt middle p + 1) (nodesIn T second e (gap .depth + 1))) m
-        → b ≡ stroked w h (connectorAt middle lines gap p (nodesIn T (p + 1) e (gap .depth + 1))) l
+        → m ≡ stroked w h (straightAt marks (lineAt middle p) foot top) l
+        → b ≡ stroked w h (bendAt marks middle lines gap foot (lineAt middle p + 1) (nodesIn T second e (gap .depth + 1))) m
+        → b ≡ stroked w h (connectorAt marks middle lines gap p (nodesIn T (p + 1) e (gap .depth + 1))) l
     unfolding connectorAt pick
     straight-drawn p first second foot top b g n f s q o u d k =
         let i = gap .depth + 1 in
@@ -145,13 +146,13 @@ module _ (T : List ℕ) (e : ℕ) (middle lines : List ℕ) (gap : Gap) where
         let a : nodesIn T (p + 1) e i ≡ first ∷ nodesIn T second e i
         = nodes-next T i (p + 1) e (omega arith) ∙ ap (λ j. nodesIn T j e i) (sym n) ∙ nodes-step T i e first second f c s in
         rw (a, eq-eqb (getD middle first 0) (getD middle p 0) q, ← o, ← u)
-        (then w h (straightAt (lineAt middle p) foot top) (bendAt middle lines gap foot (lineAt middle p + 1) (nodesIn T second e i)) l m b room d k)
+        (then w h (straightAt marks (lineAt middle p) foot top) (bendAt marks middle lines gap foot (lineAt middle p + 1) (nodesIn T second e i)) l m b room d k)
 
     -- or all of them further right
     pub bent-drawn : (p first foot : ℕ) → p < e → first ≡ nextCell T e (p + 1) (gap .depth + 1) → first < e
         → (getD middle first 0 ≡ getD middle p 0 → ⊥) → foot ≡ footAt lines gap p
-        → m ≡ stroked w h (bendAt middle lines gap foot (lineAt middle p) (nodesIn T first e (gap .depth + 1))) l
-        → m ≡ stroked w h (connectorAt middle lines gap p (nodesIn T (p + 1) e (gap .depth + 1))) l
+        → m ≡ stroked w h (bendAt marks middle lines gap foot (lineAt middle p) (nodesIn T first e (gap .depth + 1))) l
+        → m ≡ stroked w h (connectorAt marks middle lines gap p (nodesIn T (p + 1) e (gap .depth + 1))) l
     unfolding connectorAt pick
     bent-drawn p first foot g n f q o d =
         let i = gap .depth + 1 in
@@ -161,16 +162,16 @@ module _ (T : List ℕ) (e : ℕ) (middle lines : List ℕ) (gap : Gap) where
         = nodes-next T i (p + 1) e (omega arith) ∙ ap (λ j. nodesIn T j e i) (sym n) ∙ a in
         rw (z, ne-eqb (getD middle first 0) (getD middle p 0) q, ← o) (rw a at d)
 
-  module _ (w h : ℕ) (l : List ℕ) (room : w * h ≤ length l) where
+  module _ (marks : Marks) (w h : ℕ) (l : List ℕ) (room : w * h ≤ length l) where
     -- no child is left,
-    pub branches-done : (from k : ℕ) → k ≤ e → e ≤ k → l ≡ stroked w h (branchesAt middle lines gap from (nodesIn T k e (gap .depth + 1))) l
+    pub branches-done : (from k : ℕ) → k ≤ e → e ≤ k → l ≡ stroked w h (branchesAt marks middle lines gap from (nodesIn T k e (gap .depth + 1))) l
     unfolding branchesAt
     branches-done from k a b =
         let q : k ≡ e = omega arith in
         rw (q, nodes-end T (gap .depth + 1) e) (stroked-nil w h l room)
 
     -- none is further right,
-    pub bend-none : (foot x k : ℕ) → k ≤ e → e ≤ k → l ≡ stroked w h (bendAt middle lines gap foot x (nodesIn T k e (gap .depth + 1))) l
+    pub bend-none : (foot x k : ℕ) → k ≤ e → e ≤ k → l ≡ stroked w h (bendAt marks middle lines gap foot x (nodesIn T k e (gap .depth + 1))) l
     unfolding bendAt
     bend-none foot x k a b =
         let q : k ≡ e = omega arith in
@@ -178,7 +179,7 @@ module _ (T : List ℕ) (e : ℕ) (middle lines : List ℕ) (gap : Gap) where
 
     -- or there is none at all
     pub connector-none : (p first : ℕ) → p < e → first ≡ nextCell T e (p + 1) (gap .depth + 1) → e ≤ first
-        → l ≡ stroked w h (connectorAt middle lines gap p (nodesIn T (p + 1) e (gap .depth + 1))) l
+        → l ≡ stroked w h (connectorAt marks middle lines gap p (nodesIn T (p + 1) e (gap .depth + 1))) l
     unfolding connectorAt
     connector-none p first g n f =
         let i = gap .depth + 1 in
@@ -186,29 +187,29 @@ module _ (T : List ℕ) (e : ℕ) (middle lines : List ℕ) (gap : Gap) where
         rw (nodes-none T i (p + 1) e (omega arith) q) (stroked-nil w h l room)
 
 -- the parents one after another: n is the number of nodes
-module _ (T : List ℕ) (n : ℕ) (middle lines : List ℕ) (gap : Gap) (w h : ℕ) where
+module _ (T : List ℕ) (n : ℕ) (middle lines : List ℕ) (gap : Gap) (marks : Marks) (w h : ℕ) where
   -- one parent more
   pub connectors-more : (l m : List ℕ) (p end : ℕ) → w * h ≤ length l → p < n → cellIn T (gap .depth) p ≡ true
       → end ≡ nextCell T n (p + 1) (gap .depth)
-      → m ≡ stroked w h (connectorAt middle lines gap p (nodesIn T (p + 1) end (gap .depth + 1))) l
-      → stroked w h (connectorsAt middle lines gap T n (nodesIn T p n (gap .depth))) l
-      ≡ stroked w h (connectorsAt middle lines gap T n (nodesIn T end n (gap .depth))) m
+      → m ≡ stroked w h (connectorAt marks middle lines gap p (nodesIn T (p + 1) end (gap .depth + 1))) l
+      → stroked w h (connectorsAt marks middle lines gap T n (nodesIn T p n (gap .depth))) l
+      ≡ stroked w h (connectorsAt marks middle lines gap T n (nodesIn T end n (gap .depth))) m
   unfolding concat
   connectors-more l m p end room g c e d =
       rw (nodes-step T (gap .depth) n p end g c e, d, e)
-      (stroked-append w h (connectorAt middle lines gap p (childrenAt middle lines gap T n p))
-      (connectorsAt middle lines gap T n (nodesIn T (nextCell T n (p + 1) (gap .depth)) n (gap .depth))) l room)
+      (stroked-append w h (connectorAt marks middle lines gap p (childrenAt marks middle lines gap T n p))
+      (connectorsAt marks middle lines gap T n (nodesIn T (nextCell T n (p + 1) (gap .depth)) n (gap .depth))) l room)
 
   -- the first one is found
   pub connectors-from : (l : List ℕ) (p : ℕ) → p ≡ nextCell T n 0 (gap .depth)
-      → stroked w h (connectionsAt middle lines gap T n) l ≡ stroked w h (connectorsAt middle lines gap T n (nodesIn T p n (gap .depth))) l
+      → stroked w h (connectionsAt marks middle lines gap T n) l ≡ stroked w h (connectorsAt marks middle lines gap T n (nodesIn T p n (gap .depth))) l
   connectors-from l p e =
-      ap (λ (ps : List ℕ). stroked w h (connectorsAt middle lines gap T n ps) l)
+      ap (λ (ps : List ℕ). stroked w h (connectorsAt marks middle lines gap T n ps) l)
       (nodes-next T (gap .depth) 0 n (omega arith) ∙ ap (λ j. nodesIn T j n (gap .depth)) (sym e))
 
   -- none is left
   pub connectors-done : (l : List ℕ) (p : ℕ) → w * h ≤ length l → p ≤ n → n ≤ p
-      → l ≡ stroked w h (connectorsAt middle lines gap T n (nodesIn T p n (gap .depth))) l
+      → l ≡ stroked w h (connectorsAt marks middle lines gap T n (nodesIn T p n (gap .depth))) l
   unfolding concat
   connectors-done l p room a b =
       let q : p ≡ n = omega arith in

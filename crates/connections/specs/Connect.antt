@@ -1,4 +1,4 @@
--- The strokes between two rows, over node numbers: node k's column has its centre at middle[k], and its cell has lines[k] lines.
+-- The strokes between two rows, over the marks and node numbers: node k's column has its centre at middle[k], and its cell has lines[k] lines.
 -- The laws of proofs/Connected.antt say that they are the rules' connectors.
 use mathlib.Core.Path.{_≡_}
 use mathlib.Core.List.{List, [], _∷_, _++_}
@@ -10,29 +10,28 @@ use Rattle.rules.specs.Base.{pick, concat}
 use Rattle.rules.specs.Strokes.{Stroke, across, down, dot}
 use Rattle.rules.specs.Levels.{View}
 use Rattle.rules.specs.Measures.{cy}
-use Rattle.rules.specs.Drawing.{Marks, boxes, bendRow}
+use Rattle.rules.specs.Drawing.{Marks, bendRow}
 use Rattle.levels.specs.Cells.{cellIn, nextCell}
 use Rattle.levels.specs.Nodes.{nodesIn}
 use Rattle.tree_view.specs.Box.{topOf, bottomOf}
 use Rattle.connections.specs.declared.connect.Gap.{Gap}
-open Marks boxes using (─, │, ╮, ╰, ┬, ┴)
 
 -- the gap below row i
 abbrev pub gapOf : View → ℕ → Gap
 gapOf v i = record { depth = i; cy = cy v i; bend = bendRow v i; below = cy v (i + 1) }
 
 -- from a box's bottom border straight down to a box's top border
-abbrev pub straightAt : (x foot top : ℕ) → List Stroke
-straightAt x foot top = dot x foot ┬ ∷ down x (foot + 1) (top - (foot + 1)) │ ∷ dot x top ┴ ∷ []
+abbrev pub straightAt : Marks → (x foot top : ℕ) → List Stroke
+straightAt marks x foot top = dot x foot (marks .┬) ∷ down x (foot + 1) (top - (foot + 1)) (marks .│) ∷ dot x top (marks .┴) ∷ []
 
 -- from a box's bottom border to the bend row b
-abbrev pub stemAt : (x foot b : ℕ) → List Stroke
-stemAt x foot b = dot x foot ┬ ∷ down x (foot + 1) (b - (foot + 1)) │ ∷ dot x b ╰ ∷ []
+abbrev pub stemAt : Marks → (x foot b : ℕ) → List Stroke
+stemAt marks x foot b = dot x foot (marks .┬) ∷ down x (foot + 1) (b - (foot + 1)) (marks .│) ∷ dot x b (marks .╰) ∷ []
 
 -- on the bend row b from after `from` to x, with `turn` there, and down to a box's top border
-abbrev pub branchAt : (from b x turn top : ℕ) → List Stroke
-branchAt from b x turn top =
-    across (from + 1) b (x - (from + 1)) ─ ∷ dot x b turn ∷ down x (b + 1) (top - (b + 1)) │ ∷ dot x top ┴ ∷ []
+abbrev pub branchAt : Marks → (from b x turn top : ℕ) → List Stroke
+branchAt marks from b x turn top =
+    across (from + 1) b (x - (from + 1)) (marks .─) ∷ dot x b turn ∷ down x (b + 1) (top - (b + 1)) (marks .│) ∷ dot x top (marks .┴) ∷ []
 
 -- the line of node k's cell,
 abbrev pub lineAt : (middle : List ℕ) (k : ℕ) → ℕ
@@ -46,24 +45,24 @@ footAt lines gap k = bottomOf (gap .cy) (getD lines k 0)
 abbrev pub topAt : (lines : List ℕ) (gap : Gap) (k : ℕ) → ℕ
 topAt lines gap k = topOf (gap .below) (getD lines k 0)
 
-module _ (middle lines : List ℕ) (gap : Gap) where
+module _ (marks : Marks) (middle lines : List ℕ) (gap : Gap) where
   -- the branches from x on to the children ks, the last one with the corner
   unfoldable pub branchesAt : (x : ℕ) → List ℕ → List Stroke
   branchesAt x [] = []
   branchesAt x (k ∷ ks) =
-      branchAt x (gap .bend) (lineAt middle k) (pick (eqb (length ks) 0) ╮ ┬) (topAt lines gap k) ++ branchesAt (lineAt middle k) ks
+      branchAt marks x (gap .bend) (lineAt middle k) (pick (eqb (length ks) 0) (marks .╮) (marks .┬)) (topAt lines gap k) ++ branchesAt (lineAt middle k) ks
 
   -- the children further right, under a bottom border `foot`
   unfoldable pub bendAt : (foot x : ℕ) → List ℕ → List Stroke
   bendAt foot x [] = []
-  bendAt foot x (k ∷ ks) = stemAt x foot (gap .bend) ++ branchesAt x (k ∷ ks)
+  bendAt foot x (k ∷ ks) = stemAt marks x foot (gap .bend) ++ branchesAt x (k ∷ ks)
 
   -- parent p and its children, the first one straight under it or not
   unfoldable pub connectorAt : (p : ℕ) → List ℕ → List Stroke
   connectorAt p [] = []
   connectorAt p (k ∷ ks) =
       pick (eqb (getD middle k 0) (getD middle p 0))
-      (straightAt (lineAt middle p) (footAt lines gap p) (topAt lines gap k) ++ bendAt (footAt lines gap p) (lineAt middle p + 1) ks)
+      (straightAt marks (lineAt middle p) (footAt lines gap p) (topAt lines gap k) ++ bendAt (footAt lines gap p) (lineAt middle p + 1) ks)
       (bendAt (footAt lines gap p) (lineAt middle p) (k ∷ ks))
 
   module _ (T : List ℕ) (n : ℕ) where

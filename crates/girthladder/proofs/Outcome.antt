@@ -2,17 +2,17 @@
 use mathlib.Core.Path.{_≡_, ap, sym, _∙_}
 use mathlib.Core.List.{List}
 use Prim.Native.Nat.{ℕ}
-use lib.ListN.{length}
-use Rattle.rules.specs.Drawing.{boxes}
-use Rattle.marks.proofs.Ends.{lawful}
+use Rattle.rules.specs.Look.{lookOf}
+use Rattle.rules.specs.declared.Measure.{Measure}
+use Rattle.marks.proofs.Ends.{lawful-in}
 use Rattle.marks.proofs.Reader.{one-outcome}
 use Rattle.girthladder.specs.Five.{readingFive, ReadFive}
 
--- two outcomes of one call leave the same five numbers, canvas, table and titles
-pub one-answer : (P canvas table titles canvas₁ canvas₂ table₁ table₂ titles₁ titles₂ five₁ five₂ : List ℕ)
-    → ReadFive P canvas table titles canvas₁ table₁ titles₁ five₁
-    → ReadFive P canvas table titles canvas₂ table₂ titles₂ five₂
+-- in each measure two outcomes of one call leave the same five numbers, canvas, table and titles
+pub one-answer : (m : Measure) (P canvas table titles canvas₁ canvas₂ table₁ table₂ titles₁ titles₂ five₁ five₂ : List ℕ)
+    → ReadFive (lookOf m) P canvas table titles canvas₁ table₁ titles₁ five₁
+    → ReadFive (lookOf m) P canvas table titles canvas₂ table₂ titles₂ five₂
     → (five₁ ≡ five₂) × (canvas₁ ≡ canvas₂) × (table₁ ≡ table₂) × (titles₁ ≡ titles₂)
-one-answer P canvas table titles canvas₁ canvas₂ table₁ table₂ titles₁ titles₂ five₁ five₂ a b =
-    let o = one-outcome length boxes lawful P canvas table titles (a .reading) (b .reading) canvas₁ canvas₂ table₁ table₂ titles₁ titles₂ (a .reads) (b .reads) in
+one-answer m P canvas table titles canvas₁ canvas₂ table₁ table₂ titles₁ titles₂ five₁ five₂ a b =
+    let o = one-outcome (lookOf m) (lawful-in m) P canvas table titles (a .reading) (b .reading) canvas₁ canvas₂ table₁ table₂ titles₁ titles₂ (a .reads) (b .reads) in
     (a .answered ∙ ap readingFive (o .0) ∙ sym (b .answered), o .1, o .2, o .3)

@@ -2,9 +2,8 @@
 use mathlib.Core.Path.{_≡_}
 use mathlib.Core.List.{List, [], _∷_}
 use Prim.Native.Nat.{ℕ}
-use lib.ListN.{length}
+use Rattle.rules.specs.Look.{Look}
 use Rattle.rules.specs.Numbers.{number, second, readerNumber, readerSecond}
-use Rattle.rules.specs.Drawing.{boxes}
 use Rattle.rules.specs.Reader.{Reads}
 use Rattle.rules.specs.declared.Answer.{Answer}
 use Rattle.rules.specs.declared.Drawing.{Drawing}
@@ -22,8 +21,8 @@ graphFive a = number a ∷ second a ∷ 0 ∷ 0 ∷ 0 ∷ []
 unfoldable pub readingFive : Reading → List ℕ
 readingFive r = readerNumber r ∷ readerSecond r ∷ 0 ∷ 0 ∷ 0 ∷ []
 
--- the whole promise of the reader, its reading told by the five numbers
-pub record ReadFive (P canvas table titles canvas′ table′ titles′ answer : List ℕ) : Type 0 where
+-- the whole promise of the reader in a look, its reading told by the five numbers
+pub record ReadFive (look : Look) (P canvas table titles canvas′ table′ titles′ answer : List ℕ) : Type 0 where
   pub reading : Reading
-  pub reads : Reads length boxes P canvas table titles reading canvas′ table′ titles′
+  pub reads : Reads look P canvas table titles reading canvas′ table′ titles′
   pub answered : answer ≡ readingFive reading

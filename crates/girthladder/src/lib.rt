@@ -1,12 +1,14 @@
 // The door for C and Rust: drawing, graphs and reading on lent memory, the answer as five numbers.
 ghost use mathlib.Core.Path.{_≡_};
 ghost use lib.ListN.{length};
-ghost use Rattle.rules.specs.Drawing.{boxes};
+ghost use Rattle.rules.specs.Look.{base};
 ghost use Rattle.rules.specs.Graph.{bare, fenced};
 ghost use Rattle.rules.specs.Answers.{drawing, canvasAfter, outAfter, graphAnswer, graphAfter};
 ghost use Rattle.girthladder.specs.Five.{drawingFive, graphFive, readingFive, ReadFive};
+ghost use Rattle.girthladder.specs.Switches.{measureOf, lookIn};
 use rules::Answer;
 use rules::Drawing;
+use rules::Measure;
 use rules::Reading;
 
 // The same number.
@@ -57,6 +59,16 @@ fn reading_five(r: Reading) -> [u64; 5]
     ]
 }
 
+// The measure that the switches of a look say.
+fn measure_of(look: u32) -> Measure
+    ensures { λ r. ⌜ r ≡ measureOf look ⌝ }
+{
+    if look % 2 == 1 {
+        return Measure::Points;
+    }
+    Measure::Bytes
+}
+
 // Draws a plan on the lent canvas and writes its text to `out`.
 #[no_mangle]
 pub extern "C" fn girthladder_text(
@@ -66,11 +78,29 @@ pub extern "C" fn girthladder_text(
     out: &mut [u8],
     answer: &mut [u64; 5],
 )
-    ensures answered { λ _. ⌜ now (answer .exit) ≡ drawingFive (drawing length boxes (now (table .entry)) (now (titles .entry)) (length (now (canvas .entry))) (length (now (out .entry)))) ⌝ }
-    ensures canvas_left { λ _. ⌜ now (canvas .exit) ≡ canvasAfter length boxes (now (table .entry)) (now (titles .entry)) (length (now (out .entry))) (now (canvas .entry)) ⌝ }
-    ensures out_left { λ _. ⌜ now (out .exit) ≡ outAfter length boxes (now (table .entry)) (now (titles .entry)) (length (now (canvas .entry))) (now (out .entry)) ⌝ }
+    ensures answered { λ _. ⌜ now (answer .exit) ≡ drawingFive (drawing base (now (table .entry)) (now (titles .entry)) (length (now (canvas .entry))) (length (now (out .entry)))) ⌝ }
+    ensures canvas_left { λ _. ⌜ now (canvas .exit) ≡ canvasAfter base (now (table .entry)) (now (titles .entry)) (length (now (out .entry))) (now (canvas .entry)) ⌝ }
+    ensures out_left { λ _. ⌜ now (out .exit) ≡ outAfter base (now (table .entry)) (now (titles .entry)) (length (now (canvas .entry))) (now (out .entry)) ⌝ }
 {
     let d = tree_format::tree_fmt_text(table, titles, canvas, out);
+    *answer = drawing_five(d);
+}
+
+// The same in the look that these switches say.
+#[no_mangle]
+pub extern "C" fn girthladder_text_as(
+    table: &[u32],
+    titles: &[u8],
+    look: u32,
+    canvas: &mut [u32],
+    out: &mut [u8],
+    answer: &mut [u64; 5],
+)
+    ensures answered { λ _. ⌜ now (answer .exit) ≡ drawingFive (drawing (lookIn look) (now (table .entry)) (now (titles .entry)) (length (now (canvas .entry))) (length (now (out .entry)))) ⌝ }
+    ensures canvas_left { λ _. ⌜ now (canvas .exit) ≡ canvasAfter (lookIn look) (now (table .entry)) (now (titles .entry)) (length (now (out .entry))) (now (canvas .entry)) ⌝ }
+    ensures out_left { λ _. ⌜ now (out .exit) ≡ outAfter (lookIn look) (now (table .entry)) (now (titles .entry)) (length (now (canvas .entry))) (now (out .entry)) ⌝ }
+{
+    let d = tree_format::draw(table, titles, measure_of(look), canvas, out);
     *answer = drawing_five(d);
 }
 
@@ -113,9 +143,26 @@ pub extern "C" fn girthladder_read(
     titles: &mut [u8],
     answer: &mut [u64; 5],
 )
-    ensures { λ _. ⌜ ReadFive (now (picture .entry)) (now (canvas .entry)) (now (table .entry)) (now (titles .entry))
+    ensures { λ _. ⌜ ReadFive base (now (picture .entry)) (now (canvas .entry)) (now (table .entry)) (now (titles .entry))
         (now (canvas .exit)) (now (table .exit)) (now (titles .exit)) (now (answer .exit)) ⌝ }
 {
     let r = picture::read(picture, canvas, table, titles);
+    *answer = reading_five(r);
+}
+
+// The same of a picture in the look that these switches say.
+#[no_mangle]
+pub extern "C" fn girthladder_read_as(
+    picture: &[u8],
+    look: u32,
+    canvas: &mut [u32],
+    table: &mut [u32],
+    titles: &mut [u8],
+    answer: &mut [u64; 5],
+)
+    ensures { λ _. ⌜ ReadFive (lookIn look) (now (picture .entry)) (now (canvas .entry)) (now (table .entry)) (now (titles .entry))
+        (now (canvas .exit)) (now (table .exit)) (now (titles .exit)) (now (answer .exit)) ⌝ }
+{
+    let r = picture::read_as(picture, measure_of(look), canvas, table, titles);
     *answer = reading_five(r);
 }

@@ -33,7 +33,7 @@ module _ {G m : List ℕ} {need : ℕ} (p : Put G 0 [] m need) (l : List ℕ) wh
 
   -- no room for all: the bytes needed, and memory as it was
   pub room-short : length l < need → (Answer.Room need ≡ inRoom (length l) (length G)) × (m ++ l ≡ pick (done (Answer.Room need)) (laid G l) l)
-  unfolding inRoom pick done number
+  unfolding inRoom pick done
   room-short h =
       let e : need ≡ length G = omega (arith, p .place) in
       (rw (lt-ltb (length l) (length G) (omega arith)) (ap Answer.Room e), counted)
@@ -41,7 +41,7 @@ module _ {G m : List ℕ} {need : ℕ} (p : Put G 0 [] m need) (l : List ℕ) wh
   -- room for all
   pub room-enough : {w : List ℕ} {r : ℕ} → need ≤ length l → Put G 0 (m ++ l) w r
       → (Answer.Done need ≡ inRoom (length l) (length G)) × (w ≡ pick (done (Answer.Done need)) (laid G l) l)
-  unfolding inRoom pick done number
+  unfolding inRoom pick done
   room-enough {w} {r} h q =
       let e : need ≡ length G = omega (arith, p .place) in
       (rw (le-ltb (length l) (length G) (omega arith)) (ap Answer.Done e), put-laid G l w r (rw counted at q) (omega arith))

@@ -87,7 +87,7 @@ record Passed (r m e d t u : Bool) : Type 0 where
   utf8-no : u ≡ false
 
 passed : (r m e d t u : Bool) (D K U : ℕ) → done (chain r m e d t u D K U (Answer.Done 0)) ≡ true → Passed r m e d t u
-unfolding chain pick done number
+unfolding chain pick done
 passed true m e d t u D K U h = absurd (false≢true h)
 passed false true e d t u D K U h = absurd (false≢true h)
 passed false false true d t u D K U h = absurd (false≢true h)
@@ -104,7 +104,7 @@ through r m e d t u D K U next p = rw (p .ragged-no, p .many-no, p .none-no, p .
 -- and one that is not has stopped before what comes after
 stopped : (r m e d t u : Bool) (D K U : ℕ) (next : Answer) → done (chain r m e d t u D K U (Answer.Done 0)) ≡ false
     → chain r m e d t u D K U next ≡ chain r m e d t u D K U (Answer.Done 0)
-unfolding chain pick done number
+unfolding chain pick done
 stopped true m e d t u D K U next h = refl
 stopped false true e d t u D K U next h = refl
 stopped false false true d t u D K U next h = refl

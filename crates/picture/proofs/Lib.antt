@@ -6,6 +6,7 @@ pub mod Compared
 pub mod Titled
 pub mod Fitting
 pub mod Theorems
+pub mod Modes
 pub mod Promised
 pub mod Looking
 pub mod Keeping

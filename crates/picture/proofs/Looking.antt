@@ -7,7 +7,7 @@ use native.Mathlib.Omega.{arith}
 use lib.ListN.{length, getD, replicate}
 use Rattle.rules.specs.Base.{first, halfUp}
 use Rattle.rules.specs.Lines.{digits}
-use Rattle.rules.specs.Drawing.{boxes}
+use Rattle.rules.specs.Drawing.{Marks}
 use Rattle.rules.proofs.Candidate.{group, groups, marked, outside}
 use Rattle.levels.specs.Filled.{filled}
 use Rattle.picture_sight.specs.Seen.{seen, bandSeen}
@@ -51,17 +51,17 @@ module _ (cells : List ℕ) (w h : ℕ) (pic : Picture cells w h) (x nrows ncols
       let k : i < outside (seen cells w h) w h .nr = omega (arith, rows-known) in
       omega (arith, row-known i k, row-within (seen cells w h) w h i k .1, pic .high)
 
-  pub known : (band : List ℕ) → band ≡ filled (bandSeen (seen cells w h) (λ i. getD cy i 0) (λ j. getD cx j 0) ncols) 0 nrows (replicate 33 0) → Known cells w h cx band cy
-  known band b = record {
+  pub known : (band : List ℕ) → band ≡ filled (bandSeen (seen cells w h) (λ i. getD cy i 0) (λ j. getD cx j 0) ncols) 0 nrows (replicate 33 0) → (marks : Marks) → Known marks cells w h cx band cy
+  known band b marks = record {
     held = pic .fits;
     wide = pic .wide;
     high = pic .high;
-    open-cells = λ k l. pic .held k l .no-end;
+    marks-held = pic .held;
     cx-is = λ j l. ap (λ (a : List ℕ). getD a j 0) xs ∙ column-seen (seen cells w h) w h _ (replicate 257 0) j l (columns-most (seen cells w h) w h);
     cy-is = row-known;
     band-is = λ i l.
         (let m = rows-most (seen cells w h) w h in
         at-whole (bandSeen (seen cells w h) (λ i. getD cy i 0) (λ j. getD cx j 0) ncols) nrows i band (replicate 33 0) b (omega (arith, rows-known)) (omega (arith, rows-known))
         ∙ rw (columns-known, ys, xs)
-        (band-seen (seen cells w h) w h boxes (seen-open cells w h (λ k e. pic .held k e .no-end)) (replicate 33 0) (replicate 257 0) m (columns-most (seen cells w h) w h) i l));
+        (band-seen (seen cells w h) w h marks (seen-open cells w h (λ k e. pic .held k e .no-end)) (replicate 33 0) (replicate 257 0) m (columns-most (seen cells w h) w h) i l));
   }

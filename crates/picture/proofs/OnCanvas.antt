@@ -14,7 +14,7 @@ use Rattle.picture_lay.proofs.Seen as L
 use Rattle.rules.specs.Base.{pick, greatest}
 use Rattle.rules.specs.Utf8.{valid, points}
 use Rattle.rules.specs.Plan.{mostCells}
-use Rattle.rules.specs.Drawing.{boxes}
+use Rattle.rules.specs.Drawing.{Marks}
 use Rattle.rules.specs.Reader.{ended, pictureLines, pictureWidth, pictureArea, placed, canvasRead}
 use Rattle.rules.proofs.CharsBack.{both}
 use Rattle.rules.proofs.Lists.{le-greatest}
@@ -86,9 +86,9 @@ module _ (P old : List ℕ) (h : placed P (length old) ≡ true) where
   seen-is = fun-ext (λ x. fun-ext (λ y. seen-there x y))
 
   -- so the plan that is seen is the only one that can have been drawn
-  pub plan-is : planSeen (canvasRead P old) (pictureWidth P) (length (pictureLines P)) ≡ candidate boxes (pictureLines P)
+  pub plan-is : (marks : Marks) → planSeen marks (canvasRead P old) (pictureWidth P) (length (pictureLines P)) ≡ candidate marks (pictureLines P)
   unfolding planSeen candidate pictureWidth
-  plan-is = ap (λ (g : ℕ → ℕ → ℕ). planFound boxes g (pictureWidth P) (length (pictureLines P))) seen-is
+  plan-is marks = ap (λ (g : ℕ → ℕ → ℕ). planFound marks g (pictureWidth P) (length (pictureLines P))) seen-is
 
   -- the picture's cells
   pub held-cells : (k : ℕ) → k < pictureWidth P * length (pictureLines P) → Held (getD (canvasRead P old) k 0)

@@ -7,16 +7,17 @@ use native.Mathlib.Nat.{mul-le-mul-left, mul-le-mul-right}
 use native.Mathlib.Omega.{arith}
 use lib.ListN.{length, take}
 use borrow.Author.Tests.{ne-eqb}
+use Rattle.rules.specs.Look.{Look}
 use Rattle.rules.specs.Base.{pick}
 use Rattle.rules.specs.Utf8.{points}
 use Rattle.rules.specs.Plan.{Node}
 use Rattle.rules.specs.Numbers.{readerNumber}
-use Rattle.rules.specs.Drawing.{boxes}
 use Rattle.rules.specs.Reader.{Found, plan, nothing, pictureLines, pictureWidth, placed, canvasRead, tableOf, titlesOf, delivered, reading, writtenBy, Draws, Reads}
 use Rattle.rules.specs.declared.Reading.{Reading}
 use Rattle.rules.proofs.Candidate.{reads}
 use Rattle.rules.proofs.Lines.{linesOf-some}
-use Rattle.marks.proofs.Reader.{reads-right-boxes}
+use Rattle.marks.proofs.Reader.{reads-right}
+use Rattle.marks.specs.Lawful.{Lawful}
 use Rattle.picture_lay.specs.Started.{Started}
 use Rattle.picture_lay.proofs.Refusals.{reading-started, passed, stopped, put-there, not-there}
 use Rattle.picture_sight.specs.Plan.{planSeen}
@@ -30,16 +31,16 @@ unfolding writtenBy pick
 unwritten part nothing r old h = refl
 unwritten part (plan p) r old h = rw (ne-eqb (readerNumber r) 0 (λ e. omega arith)) refl
 
-module _ (P old table titles new : List ℕ) (answer : Reading) (lines width : ℕ) (spaces : Bool) (st : Started P old new answer lines width spaces) where
+module _ (look : Look) (ok : Lawful (look .len) (look .marks)) (P old table titles new : List ℕ) (answer : Reading) (lines width : ℕ) (spaces : Bool) (st : Started P old new answer lines width spaces) where
   -- the first refusal
-  pub stops : 1 ≤ readerNumber answer → Reads length boxes P old table titles answer new table titles
+  pub stops : 1 ≤ readerNumber answer → Reads look P old table titles answer new table titles
   stops n =
       let b = rw (st .answered) at n in
-      let f = reads boxes length P in
+      let f = reads look P in
       let q = stopped P (length old) (not-there P (length old) b) (Reading.Done 0) (delivered f (length table) (length titles)) .0 in
       record {
         found = f;
-        right = reads-right-boxes P;
+        right = reads-right look ok P;
         answered = st .answered ∙ q ∙ sym (reading-started P f (length old) (length table) (length titles));
         canvas-left = st .left;
         table-left = unwritten tableOf f answer table n;
@@ -70,7 +71,7 @@ module _ (P old table titles new : List ℕ) (answer : Reading) (lines width : �
     told f = reading-started P f (length old) (length table) (length titles) ∙ passed P (length old) h (delivered f (length table) (length titles))
 
     -- no plan is drawn so
-    pub none-drawn : ((q : List Node) → Draws length boxes q P → ⊥) → Reads length boxes P old table titles Reading.Undrawn new table titles
+    pub none-drawn : ((q : List Node) → Draws look q P → ⊥) → Reads look P old table titles Reading.Undrawn new table titles
     unfolding delivered writtenBy
     none-drawn f = record {
       found = nothing;
@@ -81,23 +82,23 @@ module _ (P old table titles new : List ℕ) (answer : Reading) (lines width : �
       titles-left = refl;
     }
 
-    pub no-width : width ≡ 0 → Reads length boxes P old table titles Reading.Undrawn new table titles
-    no-width z = none-drawn (empty-is-none P (sym (st .wide h) ∙ z))
+    pub no-width : width ≡ 0 → Reads look P old table titles Reading.Undrawn new table titles
+    no-width z = none-drawn (empty-is-none look ok P (sym (st .wide h) ∙ z))
 
-    pub a-space : spaces ≡ true → Reads length boxes P old table titles Reading.Undrawn new table titles
-    a-space s = none-drawn (spaced-is-none P (sym (st .ends h) ∙ s))
+    pub a-space : spaces ≡ true → Reads look P old table titles Reading.Undrawn new table titles
+    a-space s = none-drawn (spaced-is-none look ok P (sym (st .ends h) ∙ s))
 
     -- the last answer, by what lies on the canvas
     pub answered-so : (r : Reading) (table′ titles′ : List ℕ) → spaces ≡ false
-        → Answered new width lines table titles r table′ titles′ → Reads length boxes P old table titles r new table′ titles′
+        → Answered look new width lines table titles r table′ titles′ → Reads look P old table titles r new table′ titles′
     answered-so r table′ titles′ s a = go (rw (st .left, st .wide h, st .high h) at a)
       where
-        go : Answered (canvasRead P old) (pictureWidth P) (length (pictureLines P)) table titles r table′ titles′ → Reads length boxes P old table titles r new table′ titles′
-        go (refused f e t i) = rw (e, t, i) (none-drawn (undrawn-is-none P old h f))
+        go : Answered look (canvasRead P old) (pictureWidth P) (length (pictureLines P)) table titles r table′ titles′ → Reads look P old table titles r new table′ titles′
+        go (refused f e t i) = rw (e, t, i) (none-drawn (undrawn-is-none look ok P old h f))
         go (accepted a d) = record {
-          found = plan (planSeen (canvasRead P old) (pictureWidth P) (length (pictureLines P)));
-          right = accepted-is-drawn P old h (sym (st .ends h) ∙ s) a;
-          answered = d .answered ∙ sym (told (plan (planSeen (canvasRead P old) (pictureWidth P) (length (pictureLines P)))));
+          found = plan (planSeen (look .marks) (canvasRead P old) (pictureWidth P) (length (pictureLines P)));
+          right = accepted-is-drawn look ok P old h (sym (st .ends h) ∙ s) a;
+          answered = d .answered ∙ sym (told (plan (planSeen (look .marks) (canvasRead P old) (pictureWidth P) (length (pictureLines P)))));
           canvas-left = st .left;
           table-left = d .table-left;
           titles-left = d .titles-left;

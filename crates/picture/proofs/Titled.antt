@@ -8,6 +8,7 @@ use Prim.Native.Nat.{ℕ, suc, _+_, _*_, _-_, _/_, _≤_, _<_}
 use native.Mathlib.Omega.{arith}
 use lib.ListN.{length, getD}
 use borrow.Author.Tests.{le-leb, eq-eqb}
+use Rattle.rules.specs.Look.{Look}
 use Rattle.rules.specs.Base.{pick, every, concat, first, halfUp}
 use Rattle.rules.specs.Utf8.{valid, utf8}
 use Rattle.rules.specs.Lines.{linesOf}
@@ -15,7 +16,6 @@ use Rattle.rules.specs.Plan.{Node, nodeAt, depthAt}
 use Rattle.rules.specs.Numbers.{badDepth}
 use Rattle.rules.specs.Levels.{view}
 use Rattle.rules.specs.Measures.{area}
-use Rattle.rules.specs.Drawing.{boxes}
 use Rattle.rules.specs.Ordinary.{endsInSpace, ordinaryTitle, ordinary}
 use Rattle.rules.proofs.Lists.{concat-append}
 use Rattle.rules.proofs.Scalars.{Scalar, scalars-valid}
@@ -26,10 +26,9 @@ use Rattle.marks.proofs.Text.{Held, trim-mem}
 use Rattle.picture_lay.proofs.Unspaced.{ends-points}
 use Rattle.picture_sight.specs.Seen.{seen}
 use Rattle.picture_sight.specs.Plan.{planSeen}
-use Rattle.picture_sight.proofs.Seen.{seen-all}
 use Rattle.picture_sight.proofs.Split.{map-all}
 use Rattle.picture_gather.specs.Gathered.{Gathered}
-use Rattle.picture_same.proofs.Letters.{line-points, block, block-split}
+use Rattle.picture_sight.proofs.Letters.{seen-held, line-points, block, block-split}
 
 every-of : {A : Type 0} (t : A → Bool) (l : List A) → ((a : A) → List·Memᴰ a l → t a ≡ true) → every t l ≡ true
 unfolding every
@@ -97,22 +96,19 @@ module _ (g : ℕ → ℕ → ℕ) (held : (x y : ℕ) → Held (g x y)) where
           ap valid e ∙ title-valid,
         )
 
-module _ (cells : List ℕ) (w h nodes bytes : ℕ) (table middle lines most : List ℕ) (ga : Gathered cells w h nodes bytes table middle lines most)
+module _ (look : Look) (cells : List ℕ) (w h nodes bytes : ℕ) (table middle lines most : List ℕ) (ga : Gathered (look .len) (look .marks) cells w h nodes bytes table middle lines most)
     (held : (k : ℕ) → k < w * h → Held (getD cells k 0)) where
-  seen-held : (x y : ℕ) → Held (seen cells w h x y)
-  seen-held = seen-all Held cells w h (record { scalar = record { below = omega arith; apart = λ c. omega arith }; no-end = λ z. omega arith }) held
-
-  pub gathered-title : (k : ℕ) → k < nodes → ordinaryTitle (nodeAt (planSeen cells w h) k .title) ≡ true
+  pub gathered-title : (k : ℕ) → k < nodes → ordinaryTitle (nodeAt (planSeen (look .marks) cells w h) k .title) ≡ true
   gathered-title k l =
-      title-ordinary (seen cells w h) seen-held (getD middle k 0 - halfUp (getD most k 0))
-      (outside (seen cells w h) w h .cy (depthAt (planSeen cells w h) k) - getD lines k 0 / 2) (getD lines k 0) (getD most k 0) (ga .placed k l .3)
-      (nodeAt (planSeen cells w h) k .title) (ga .lettered k l) (ga .titled k l .0) (ga .titled k l .1)
+      title-ordinary (seen cells w h) (seen-held cells w h held) (getD middle k 0 - halfUp (getD most k 0))
+      (outside (seen cells w h) w h .cy (depthAt (planSeen (look .marks) cells w h) k) - getD lines k 0 / 2) (getD lines k 0) (getD most k 0) (ga .placed k l .3)
+      (nodeAt (planSeen (look .marks) cells w h) k .title) (ga .lettered k l) (ga .titled k l .0) (ga .titled k l .1)
 
-  pub gathered-ordinary : 1 ≤ nodes → first (badDepth (planSeen cells w h)) (length (planSeen cells w h)) ≡ length (planSeen cells w h)
-      → w * h ≤ 1048576 → Pictured boxes (view (planSeen cells w h)) (seen cells w h) w h → ordinary length (planSeen cells w h) ≡ true
+  pub gathered-ordinary : 1 ≤ nodes → first (badDepth (planSeen (look .marks) cells w h)) (length (planSeen (look .marks) cells w h)) ≡ length (planSeen (look .marks) cells w h)
+      → w * h ≤ 1048576 → Pictured (look .len) (look .marks) (view (planSeen (look .marks) cells w h)) (seen cells w h) w h → ordinary look (planSeen (look .marks) cells w h) ≡ true
   unfolding ordinary area
   gathered-ordinary s d a q =
-      let p = planSeen cells w h in
+      let p = planSeen (look .marks) cells w h in
       rw (
         every-node (λ n. ordinaryTitle (n .title)) p (λ k l. gathered-title k (omega (arith, ga .counted))),
         le-leb 1 (length p) (omega (arith, ga .counted)),

@@ -4,10 +4,12 @@ use mathlib.Core.List.{List}
 use mathlib.Core.Bool.{true}
 use Prim.Native.Nat.{ℕ, _*_, _≤_, _<_}
 use lib.ListN.{length, getD, take}
+use Rattle.rules.specs.Look.{Look, lenOf, marksIn}
 use Rattle.rules.specs.Base.{first}
 use Rattle.rules.specs.Numbers.{badDepth}
 use Rattle.rules.specs.Levels.{view}
-use Rattle.rules.specs.Drawing.{boxes}
+use Rattle.rules.specs.declared.Measure.{Measure}
+use Rattle.rules.specs.declared.look.Glyphs.{Glyphs}
 use Rattle.rules.specs.Ordinary.{ordinary}
 use Rattle.rules.specs.declared.Reading.{Reading}
 use Rattle.rules.proofs.Candidate.{outside}
@@ -18,6 +20,10 @@ use Rattle.picture_sight.specs.Plan.{planSeen}
 use Rattle.picture_gather.specs.Gathered.{Gathered, Misfit}
 use Rattle.picture.specs.Standing.{Delivers}
 
+-- the look as the code holds it
+abbrev pub lookIn : Measure → Glyphs → Look
+lookIn m g = record { len = lenOf m; marks = marksIn g }
+
 -- the cells hold a picture: code points that a text can hold
 pub record Picture (cells : List ℕ) (w h : ℕ) : Type 0 where
   pub fits : w * h ≤ length cells
@@ -27,26 +33,28 @@ pub record Picture (cells : List ℕ) (w h : ℕ) : Type 0 where
   pub held : (k : ℕ) → k < w * h → Held (getD cells k 0)
 
 -- what is kept of the plan once it is gathered: its table alone, its nodes' numbers, and the rows' centres
-pub record Kept (cells : List ℕ) (w h nodes bytes : ℕ) (table cy middle lines most : List ℕ) : Type 0 where
+pub record Kept (look : Look) (cells : List ℕ) (w h nodes bytes : ℕ) (table cy middle lines most : List ℕ) : Type 0 where
   pub whole : List ℕ
-  pub gathered : Gathered cells w h nodes bytes whole middle lines most
+  pub gathered : Gathered (look .len) (look .marks) cells w h nodes bytes whole middle lines most
   pub table-is : table ≡ take (3 * nodes) whole
   pub cy-is : (i : ℕ) → i < outside (seen cells w h) w h .nr → getD cy i 0 ≡ outside (seen cells w h) w h .cy i
 
-module _ (cells : List ℕ) (w h : ℕ) where
+module _ (look : Look) (cells : List ℕ) (w h : ℕ) where
+  open Look look using (len, marks)
+
   -- the plan that is seen is ordinary, and the picture shows its drawing
   pub record Accepted : Type 0 where
-    pub is-ordinary : ordinary length (planSeen cells w h) ≡ true
-    pub shown : Pictured boxes (view (planSeen cells w h)) (seen cells w h) w h
+    pub is-ordinary : ordinary look (planSeen marks cells w h) ≡ true
+    pub shown : Pictured len marks (view (planSeen marks cells w h)) (seen cells w h) w h
 
   -- or it has a node that does not fit, or no node, or a wrong depth, or the picture shows something else
   pub data Refused : Type 0 where
-    misfit : Misfit cells w h → Refused
-    no-node : length (planSeen cells w h) ≡ 0 → Refused
-    wrong-depth : first (badDepth (planSeen cells w h)) (length (planSeen cells w h)) < length (planSeen cells w h) → Refused
-    other : (Pictured boxes (view (planSeen cells w h)) (seen cells w h) w h → ⊥) → Refused
+    misfit : Misfit len marks cells w h → Refused
+    no-node : length (planSeen marks cells w h) ≡ 0 → Refused
+    wrong-depth : first (badDepth (planSeen marks cells w h)) (length (planSeen marks cells w h)) < length (planSeen marks cells w h) → Refused
+    other : (Pictured len marks (view (planSeen marks cells w h)) (seen cells w h) w h → ⊥) → Refused
 
   -- by that the answer, and what is left in the table and the titles
   pub data Answered (table titles : List ℕ) (r : Reading) (table′ titles′ : List ℕ) : Type 0 where
     refused : Refused → r ≡ Reading.Undrawn → table′ ≡ table → titles′ ≡ titles → Answered table titles r table′ titles′
-    accepted : Accepted → Delivers (planSeen cells w h) table titles r table′ titles′ → Answered table titles r table′ titles′
+    accepted : Accepted → Delivers (planSeen marks cells w h) table titles r table′ titles′ → Answered table titles r table′ titles′

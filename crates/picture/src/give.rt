@@ -1,11 +1,12 @@
 // The plan that was found, into lent memory.
 ghost use mathlib.Core.Path.{_≡_};
+ghost use mathlib.Core.List.{List};
 ghost use Prim.Native.Nat.{ℕ, _≤_, _<_, _*_};
 ghost use lib.ListN.{length, getD};
 ghost use Rattle.rules.specs.Base.{laid};
-ghost use Rattle.rules.specs.Reader.{titlesOf};
-ghost use Rattle.picture_sight.specs.Plan.{planSeen};
-ghost use Rattle.picture.specs.Standing.{Standing, Delivers};
+ghost use Rattle.rules.specs.Plan.{Node};
+ghost use Rattle.picture_sight.specs.Seen.{seen};
+ghost use Rattle.picture.specs.Standing.{Standing, titlesBy, Told, Delivers};
 use rules::Reading;
 
 // Copies the table.
@@ -35,9 +36,9 @@ fn give_titles(
 )
     requires { ⌜ width * height ≤ length (now cells) ⌝ }
     requires { ⌜ ((k : ℕ) → k < width * height → getD (now cells) k 0 < 0x200000) ⌝ }
-    requires { ⌜ Standing (now cells) width height nodes (now found) (now cy) (now middle) (now lines) (now longest) ⌝ }
-    requires { ⌜ length (titlesOf (planSeen (now cells) width height)) ≤ length (now out) ⌝ }
-    ensures { λ _. ⌜ now (out .exit) ≡ laid (titlesOf (planSeen (now (cells .entry)) width height)) (now (out .entry)) ⌝ }
+    requires { ⌜ Standing nodes (now found) (now cy) (now middle) (now lines) (now longest) ⌝ }
+    requires { ⌜ length (titlesBy (seen (now cells) width height) (now found) (now cy) (now middle) (now lines) (now longest) nodes) ≤ length (now out) ⌝ }
+    ensures { λ _. ⌜ now (out .exit) ≡ laid (titlesBy (seen (now (cells .entry)) width height) (now (found .entry)) (now (cy .entry)) (now (middle .entry)) (now (lines .entry)) (now (longest .entry)) nodes) (now (out .entry)) ⌝ }
 {
     let mut at = 0;
     let mut k = 0;
@@ -69,9 +70,10 @@ pub(crate) fn deliver(
 ) -> Reading
     requires { ⌜ width * height ≤ length (now cells) ⌝ }
     requires { ⌜ ((k : ℕ) → k < width * height → getD (now cells) k 0 < 0x200000) ⌝ }
-    requires { ⌜ Standing (now cells) width height nodes (now found) (now cy) (now middle) (now lines) (now longest) ⌝ }
-    requires { ⌜ bytes ≡ length (titlesOf (planSeen (now cells) width height)) ⌝ }
-    ensures { λ r. ⌜ Delivers (planSeen (now (cells .entry)) width height) (now (table .entry)) (now (titles .entry)) r (now (table .exit)) (now (titles .exit)) ⌝ }
+    requires { ⌜ Standing nodes (now found) (now cy) (now middle) (now lines) (now longest) ⌝ }
+    requires { ⌜ bytes ≡ length (titlesBy (seen (now cells) width height) (now found) (now cy) (now middle) (now lines) (now longest) nodes) ⌝ }
+    ensures { λ r. ⌜ ((p : List Node) → Told (seen (now (cells .entry)) width height) (now (found .entry)) (now (cy .entry)) (now (middle .entry)) (now (lines .entry)) (now (longest .entry)) p nodes
+        → Delivers p (now (table .entry)) (now (titles .entry)) r (now (table .exit)) (now (titles .exit))) ⌝ }
 {
     let entries = found.len();
     if table.len() < entries {

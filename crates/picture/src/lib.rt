@@ -5,3 +5,4 @@ mod look;
 mod tell;
 
 pub use entry::read;
+pub use entry::read_as;

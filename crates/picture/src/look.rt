@@ -1,10 +1,14 @@
 // The plan that is seen in a picture on lent cells.
 ghost use mathlib.Core.Path.{_≡_};
+ghost use Rattle.rules.specs.Look.{lenOf, marksIn};
+ghost use Rattle.marks.specs.Lawful.{Lawful};
 ghost use Rattle.rules.proofs.Candidate.{outside};
 ghost use Rattle.picture_sight.specs.Seen.{seen};
 ghost use Rattle.picture_gather.specs.Known.{Known};
-ghost use Rattle.picture.specs.Answered.{Picture, Answered};
+ghost use Rattle.picture.specs.Answered.{Picture, lookIn, Answered};
 use crate::tell::tell;
+use rules::Glyphs;
+use rules::Measure;
 use rules::Reading;
 
 // Gathers the plan by the centres and the offsets, and delivers it, if the picture is its drawing.
@@ -12,6 +16,8 @@ fn inside(
     cells: &[u32],
     width: u32,
     height: u32,
+    measure: Measure,
+    g: Glyphs,
     cx: &[u32; 257],
     ncols: u32,
     band: &[u32; 33],
@@ -20,10 +26,10 @@ fn inside(
     table: &mut [u32],
     titles: &mut [u8],
 ) -> Reading
-    requires { ⌜ Picture (now cells) width height ⌝ }
-    requires { ⌜ Known (now cells) width height (now cx) (now band) (now cy)
+    requires { ⌜ Picture (now cells) width height × Lawful (lenOf measure) (marksIn g) ⌝ }
+    requires { ⌜ Known (marksIn g) (now cells) width height (now cx) (now band) (now cy)
         × (ncols ≡ outside (seen (now cells) width height) width height .nc) × (nrows ≡ outside (seen (now cells) width height) width height .nr) ⌝ }
-    ensures { λ r. ⌜ Answered (now (cells .entry)) width height (now (table .entry)) (now (titles .entry)) r (now (table .exit)) (now (titles .exit)) ⌝ }
+    ensures { λ r. ⌜ Answered (lookIn measure g) (now (cells .entry)) width height (now (table .entry)) (now (titles .entry)) r (now (table .exit)) (now (titles .exit)) ⌝ }
 {
     let mut found = [0u32; 768];
     let mut middle = [0u32; 256];
@@ -33,6 +39,8 @@ fn inside(
         cells,
         width,
         height,
+        measure,
+        g,
         cx,
         ncols,
         band,
@@ -52,6 +60,8 @@ fn inside(
         cells,
         width,
         height,
+        measure,
+        g,
         &found[..entries],
         nodes,
         c.bytes,
@@ -69,11 +79,13 @@ pub(crate) fn look(
     cells: &[u32],
     width: u32,
     height: u32,
+    measure: Measure,
+    g: Glyphs,
     table: &mut [u32],
     titles: &mut [u8],
 ) -> Reading
-    requires { ⌜ Picture (now cells) width height ⌝ }
-    ensures { λ r. ⌜ Answered (now (cells .entry)) width height (now (table .entry)) (now (titles .entry)) r (now (table .exit)) (now (titles .exit)) ⌝ }
+    requires { ⌜ Picture (now cells) width height × Lawful (lenOf measure) (marksIn g) ⌝ }
+    ensures { λ r. ⌜ Answered (lookIn measure g) (now (cells .entry)) width height (now (table .entry)) (now (titles .entry)) r (now (table .exit)) (now (titles .exit)) ⌝ }
 {
     let mut cx = [0u32; 257];
     let mut cy = [0u32; 33];
@@ -86,6 +98,8 @@ pub(crate) fn look(
         cells,
         width,
         height,
+        measure,
+        g,
         &cx,
         ncols,
         &band,

@@ -1,6 +1,10 @@
 // Whether the plan that was gathered was drawn.
-ghost use Rattle.picture.specs.Answered.{Picture, Kept, Answered};
+ghost use Rattle.rules.specs.Look.{lenOf, marksIn};
+ghost use Rattle.marks.specs.Lawful.{Lawful};
+ghost use Rattle.picture.specs.Answered.{Picture, lookIn, Kept, Answered};
 use crate::give::deliver;
+use rules::Glyphs;
+use rules::Measure;
 use rules::Reading;
 
 // Delivers the plan that was gathered, if the picture is its drawing.
@@ -8,6 +12,8 @@ pub(crate) fn tell(
     cells: &[u32],
     width: u32,
     height: u32,
+    measure: Measure,
+    g: Glyphs,
     found: &[u32],
     nodes: usize,
     bytes: usize,
@@ -18,9 +24,9 @@ pub(crate) fn tell(
     table: &mut [u32],
     titles: &mut [u8],
 ) -> Reading
-    requires { ⌜ Picture (now cells) width height ⌝ }
-    requires { ⌜ Kept (now cells) width height nodes bytes (now found) (now cy) (now middle) (now lines) (now longest) ⌝ }
-    ensures { λ r. ⌜ Answered (now (cells .entry)) width height (now (table .entry)) (now (titles .entry)) r (now (table .exit)) (now (titles .exit)) ⌝ }
+    requires { ⌜ Picture (now cells) width height × Lawful (lenOf measure) (marksIn g) ⌝ }
+    requires { ⌜ Kept (lookIn measure g) (now cells) width height nodes bytes (now found) (now cy) (now middle) (now lines) (now longest) ⌝ }
+    ensures { λ r. ⌜ Answered (lookIn measure g) (now (cells .entry)) width height (now (table .entry)) (now (titles .entry)) r (now (table .exit)) (now (titles .exit)) ⌝ }
 {
     if nodes == 0 {
         return Reading::Undrawn;
@@ -32,6 +38,8 @@ pub(crate) fn tell(
         cells,
         width,
         height,
+        measure,
+        g,
         cy,
         found,
         nodes,

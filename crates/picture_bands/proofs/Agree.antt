@@ -13,14 +13,13 @@ use Rattle.rules.specs.Base.{pick}
 use Rattle.rules.specs.Plan.{Node, depthIn}
 use Rattle.rules.specs.Levels.{view}
 use Rattle.rules.specs.Measures.{rowOffset, columnOffset}
-use Rattle.rules.specs.Drawing.{boxes}
+use Rattle.rules.specs.Drawing.{Marks}
 use Rattle.rules.proofs.Bounds.{column-below}
 use Rattle.marks.specs.Alike.{alikeIn}
 use Rattle.marks.specs.Spot.{spotMark}
 use Rattle.marks.specs.Whole.{markAt}
 use Rattle.marks.proofs.Alike.{in-none, in-split, in-all, in-if, in-same, in-beside}
 use Rattle.marks.proofs.Places.{left-low}
-use Rattle.marks.proofs.Ends.{lawful}
 use Rattle.marks.proofs.Picture.{Laid, laid}
 use Rattle.marks.proofs.Spots.{spot-field, mark-block}
 use Rattle.picture_sight.specs.Seen.{seen}
@@ -38,85 +37,85 @@ pub seen-at : (cells : List ℕ) (w h x y : ℕ) → x < w → y < h → seen ce
 unfolding seen pick
 seen-at cells w h x y a b = rw (lt-ltb x w a, lt-ltb y h b)
 
-module _ {p : List Node} (cells : List ℕ) {w h : ℕ} {T : List ℕ} {nodes : ℕ} {C L G cx xs : List ℕ} {ncols : ℕ} {cy ys : List ℕ} {nrows : ℕ}
-    (q : Ready p (seen cells w h) w h T nodes C L G cx xs ncols cy ys nrows) where
+module _ {len : List ℕ → ℕ} {marks : Marks} {p : List Node} (cells : List ℕ) {w h : ℕ} {T : List ℕ} {nodes : ℕ} {C L G cx xs : List ℕ} {ncols : ℕ} {cy ys : List ℕ} {nrows : ℕ}
+    (q : Ready len marks p (seen cells w h) w h T nodes C L G cx xs ncols cy ys nrows) where
   drawn : Laid (view p)
-  drawn = laid length boxes p (q .drawable)
+  drawn = laid len marks p (q .drawable)
 
   -- the rows from 3 on, before e, are as they are drawn
   abbrev pub agreed : (a b c e : ℕ) → Bool
-  agreed a b c e = alikeIn (seen cells w h) (markAt length boxes (view p)) a b c e
+  agreed a b c e = alikeIn (seen cells w h) (markAt len marks (view p)) a b c e
 
   module _ (i : ℕ) (hi : i < view p .rows) (r : Row) (o : RowOf T nodes C ncols cy ys nrows h i r) where
     -- one column of row i
     strip-mark : (j : ℕ) → j < view p .columns
-        → stripSame cells w r L G cx xs ncols j ≡ agreed (columnFrom (view p) j) (columnFrom (view p) (j + 1)) (rowFrom (view p) i) (rowFrom (view p) (i + 1))
+        → stripSame marks cells w r L G cx xs ncols j ≡ agreed (columnFrom len (view p) j) (columnFrom len (view p) (j + 1)) (rowFrom (view p) i) (rowFrom (view p) (i + 1))
     unfolding stripSame
     strip-mark j hj =
-        let c = column-part (view p) j hj in
-        let d = row-part (view p) i hi in
-        let ea : getD xs j 0 ≡ columnFrom (view p) j = q .numbers .x-is j hj ∙ sym (c .from-is) in
-        let eb = column-stop (view p) (q .numbers) j hj in
+        let c = column-part len marks (view p) j hj in
+        let d = row-part len marks (view p) i hi in
+        let ea : getD xs j 0 ≡ columnFrom len (view p) j = q .numbers .x-is j hj ∙ sym (c .from-is) in
+        let eb = column-stop len marks (view p) (q .numbers) j hj in
         let et : r .top ≡ rowFrom (view p) i = o .top-is ∙ q .numbers .y-is i hi ∙ sym (d .from-is) in
-        let ee : r .end ≡ rowFrom (view p) (i + 1) = o .end-is ∙ row-stop (view p) (q .numbers) i hi in
+        let ee : r .end ≡ rowFrom (view p) (i + 1) = o .end-is ∙ row-stop len marks (view p) (q .numbers) i hi in
         let ww = q .numbers .wide in
         let hh = q .numbers .high in
         rw (ea, eb, et, ee)
-        (in-same (λ x y. getD cells (y * w + x) 0) (λ x y. spotMark boxes (spotIn r L G cx j) (getD cells (y * w + x) 0) x y) (seen cells w h) (markAt length boxes (view p))
-        (columnFrom (view p) j) (columnFrom (view p) (j + 1)) (rowFrom (view p) i) (rowFrom (view p) (i + 1))
+        (in-same (λ x y. getD cells (y * w + x) 0) (λ x y. spotMark marks (spotIn r L G cx j) (getD cells (y * w + x) 0) x y) (seen cells w h) (markAt len marks (view p))
+        (columnFrom len (view p) j) (columnFrom len (view p) (j + 1)) (rowFrom (view p) i) (rowFrom (view p) (i + 1))
         (λ x y a b e f. sym (seen-at cells w h x y (omega (arith, c .on-canvas)) (omega (arith, d .on-canvas))))
         (λ x y a b e f.
-        ap (λ (k : ℕ). spotMark boxes (spotIn r L G cx j) k x y) (sym (seen-at cells w h x y (omega (arith, c .on-canvas)) (omega (arith, d .on-canvas))))
-        ∙ spot-field boxes lawful (view p) (drawn .proper-view) (drawn .rising-view) (drawn .few-rows) (seen cells w h) (q .lettered) i j (spotIn r L G cx j) (spotted q i j hi hj r o) hi hj x y
-        ∙ sym (mark-block boxes lawful (view p) (drawn .proper-view) i j x y hi hj (omega (arith, c .from-is)) (omega (arith, c .to-most)) (omega (arith, d .from-is)) (omega (arith, d .to-most)))))
+        ap (λ (k : ℕ). spotMark marks (spotIn r L G cx j) k x y) (sym (seen-at cells w h x y (omega (arith, c .on-canvas)) (omega (arith, d .on-canvas))))
+        ∙ spot-field len marks (q .lawful) (view p) (drawn .proper-view) (drawn .rising-view) (drawn .few-rows) (seen cells w h) (q .lettered) i j (spotIn r L G cx j) (spotted q i j hi hj r o) hi hj x y
+        ∙ sym (mark-block len marks (view p) i j x y hi hj (omega (arith, c .from-is)) (omega (arith, c .to-most)) (omega (arith, d .from-is)) (omega (arith, d .to-most)))))
 
     -- its first m columns
     strips-mark : (m : ℕ) → m ≤ view p .columns → 1 ≤ view p .columns
-        → stripsSame cells w r L G cx xs ncols m ≡ agreed (M.d (view p) + 4) (columnFrom (view p) m) (rowFrom (view p) i) (rowFrom (view p) (i + 1))
+        → stripsSame marks cells w r L G cx xs ncols m ≡ agreed (M.d (view p) + 4) (columnFrom len (view p) m) (rowFrom (view p) i) (rowFrom (view p) (i + 1))
     strips-mark zero b s =
-        let c = column-part (view p) 0 s in
-        let z : columnOffset length (view p) 0 ≡ M.d (view p) + 4 = unfold M.columnOffset in refl in
-        strips-none cells w r L G cx xs ncols
-        ∙ sym (in-if (seen cells w h) (markAt length boxes (view p)) (M.d (view p) + 4) (columnFrom (view p) 0) (rowFrom (view p) i) (rowFrom (view p) (i + 1)) (λ x y k l e f. absurd (omega (arith, c .from-is))))
+        let c = column-part len marks (view p) 0 s in
+        let z : columnOffset len (view p) 0 ≡ M.d (view p) + 4 = unfold M.columnOffset in refl in
+        strips-none marks cells w r L G cx xs ncols
+        ∙ sym (in-if (seen cells w h) (markAt len marks (view p)) (M.d (view p) + 4) (columnFrom len (view p) 0) (rowFrom (view p) i) (rowFrom (view p) (i + 1)) (λ x y k l e f. absurd (omega (arith, c .from-is))))
     strips-mark (suc m) b s =
-        let c = column-part (view p) m b in
+        let c = column-part len marks (view p) m b in
         let z = add-one m in
-        ap (stripsSame cells w r L G cx xs ncols) (sym z)
-        ∙ strips-next cells w r L G cx xs ncols m
+        ap (stripsSame marks cells w r L G cx xs ncols) (sym z)
+        ∙ strips-next marks cells w r L G cx xs ncols m
         ∙ rw (strips-mark m (omega arith) s, strip-mark m b)
-        (sym (in-beside (seen cells w h) (markAt length boxes (view p)) (M.d (view p) + 4) (columnFrom (view p) m) (columnFrom (view p) (m + 1)) (rowFrom (view p) i) (rowFrom (view p) (i + 1))
-        (omega (arith, c .from-is, left-low length boxes (view p) m)) (omega (arith, c .from-is, c .to-least, c .wide))))
-        ∙ ap (λ (n : ℕ). agreed (M.d (view p) + 4) (columnFrom (view p) n) (rowFrom (view p) i) (rowFrom (view p) (i + 1))) z
+        (sym (in-beside (seen cells w h) (markAt len marks (view p)) (M.d (view p) + 4) (columnFrom len (view p) m) (columnFrom len (view p) (m + 1)) (rowFrom (view p) i) (rowFrom (view p) (i + 1))
+        (omega (arith, c .from-is, left-low len marks (view p) m)) (omega (arith, c .from-is, c .to-least, c .wide))))
+        ∙ ap (λ (n : ℕ). agreed (M.d (view p) + 4) (columnFrom len (view p) n) (rowFrom (view p) i) (rowFrom (view p) (i + 1))) z
 
     -- and all
-    pub band-mark : stripsSame cells w r L G cx xs ncols ncols ≡ agreed (M.d (view p) + 4) w (rowFrom (view p) i) (rowFrom (view p) (i + 1))
+    pub band-mark : stripsSame marks cells w r L G cx xs ncols ncols ≡ agreed (M.d (view p) + 4) w (rowFrom (view p) i) (rowFrom (view p) (i + 1))
     band-mark =
-        let e : columnFrom (view p) ncols ≡ w = ap (columnFrom (view p)) (q .numbers .columns-are) ∙ column-last (view p) ∙ sym (q .numbers .wide) in
+        let e : columnFrom len (view p) ncols ≡ w = ap (columnFrom len (view p)) (q .numbers .columns-are) ∙ column-last len marks (view p) ∙ sym (q .numbers .wide) in
         strips-mark ncols (omega (arith, q .numbers .columns-are)) (drawn .proper-view .columned) ∙ rw e
 
     -- the row lies on the canvas
     pub row-fits : w * h ≤ length cells → (r .end * w ≤ length cells) × (r .top ≤ r .bend)
     row-fits f =
-        let d = row-part (view p) i hi in
-        let e : r .end ≤ h = omega (arith, o .end-is, row-stop (view p) (q .numbers) i hi, d .on-canvas, q .numbers .high) in
-        (omega (arith, mul-le-mul-right w e, mul-comm w h), omega (arith, o .top-is, q .numbers .y-is i hi, o .bend-is, row-bends (view p) (q .numbers) i hi))
+        let d = row-part len marks (view p) i hi in
+        let e : r .end ≤ h = omega (arith, o .end-is, row-stop len marks (view p) (q .numbers) i hi, d .on-canvas, q .numbers .high) in
+        (omega (arith, mul-le-mul-right w e, mul-comm w h), omega (arith, o .top-is, q .numbers .y-is i hi, o .bend-is, row-bends len marks (view p) (q .numbers) i hi))
 
   -- ---- row by row
   pub rows-none : agreed (M.d (view p) + 4) w 3 (rowFrom (view p) 0) ≡ true
   rows-none =
-      let d = row-part (view p) 0 (drawn .proper-view .rowed) in
+      let d = row-part len marks (view p) 0 (drawn .proper-view .rowed) in
       let z : rowOffset (view p) 0 ≡ 3 = unfold M.rowOffset in refl in
-      in-none (seen cells w h) (markAt length boxes (view p)) (M.d (view p) + 4) w 3 (rowFrom (view p) 0) (omega (arith, d .from-is))
+      in-none (seen cells w h) (markAt len marks (view p)) (M.d (view p) + 4) w 3 (rowFrom (view p) 0) (omega (arith, d .from-is))
 
   pub rows-more : (i : ℕ) → i < view p .rows → agreed (M.d (view p) + 4) w 3 (rowFrom (view p) i) ≡ true
       → true ≡ agreed (M.d (view p) + 4) w (rowFrom (view p) i) (rowFrom (view p) (i + 1)) → agreed (M.d (view p) + 4) w 3 (rowFrom (view p) (i + 1)) ≡ true
   rows-more i hi e f =
-      let d = row-part (view p) i hi in
-      in-split (seen cells w h) (markAt length boxes (view p)) (M.d (view p) + 4) w 3 (rowFrom (view p) i) (rowFrom (view p) (i + 1)) (omega (arith, d .from-is, d .low)) (omega (arith, d .from-is, d .to-least))
+      let d = row-part len marks (view p) i hi in
+      in-split (seen cells w h) (markAt len marks (view p)) (M.d (view p) + 4) w 3 (rowFrom (view p) i) (rowFrom (view p) (i + 1)) (omega (arith, d .from-is, d .low)) (omega (arith, d .from-is, d .to-least))
       ∙ rw (e, ← f)
 
   pub rows-all : (i : ℕ) → i ≡ view p .rows → rowFrom (view p) i ≡ h
-  rows-all i e = ap (rowFrom (view p)) e ∙ row-last (view p) ∙ sym (q .numbers .high)
+  rows-all i e = ap (rowFrom (view p)) e ∙ row-last len marks (view p) ∙ sym (q .numbers .high)
 
   pub rows-not : (i : ℕ) → i < view p .rows → false ≡ agreed (M.d (view p) + 4) w (rowFrom (view p) i) (rowFrom (view p) (i + 1)) → false ≡ agreed (M.d (view p) + 4) w 3 h
   rows-not i hi f = go (agreed (M.d (view p) + 4) w 3 h) refl
@@ -124,11 +123,11 @@ module _ {p : List Node} (cells : List ℕ) {w h : ℕ} {T : List ℕ} {nodes : 
       go : (b : Bool) → agreed (M.d (view p) + 4) w 3 h ≡ b → false ≡ agreed (M.d (view p) + 4) w 3 h
       go false e = sym e
       go true e =
-          let d = row-part (view p) i hi in
+          let d = row-part len marks (view p) i hi in
           absurd (false≢true (f
-          ∙ in-if (seen cells w h) (markAt length boxes (view p)) (M.d (view p) + 4) w (rowFrom (view p) i) (rowFrom (view p) (i + 1))
+          ∙ in-if (seen cells w h) (markAt len marks (view p)) (M.d (view p) + 4) w (rowFrom (view p) i) (rowFrom (view p) (i + 1))
           (λ x y a b k l.
-          in-all (seen cells w h) (markAt length boxes (view p)) (M.d (view p) + 4) w 3 h e x y a b (omega (arith, d .from-is, d .low)) (omega (arith, d .on-canvas, q .numbers .high)))))
+          in-all (seen cells w h) (markAt len marks (view p)) (M.d (view p) + 4) w 3 h e x y a b (omega (arith, d .from-is, d .low)) (omega (arith, d .on-canvas, q .numbers .high)))))
 
   -- ---- what a row is made of
   pub record Made : Type 0 where
@@ -156,6 +155,6 @@ module _ {p : List Node} (cells : List ℕ) {w h : ℕ} {T : List ℕ} {nodes : 
         gaps =
             λ i b.
             let m = q .numbers .rows-are in
-            let d = row-part (view p) (i + 1) (omega arith) in
+            let d = row-part len marks (view p) (i + 1) (omega arith) in
             omega (arith, q .numbers .y-is (i + 1) (omega arith), d .low);
       }

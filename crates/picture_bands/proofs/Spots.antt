@@ -13,9 +13,9 @@ use borrow.Author.Tests.{eq-eqb, ne-eqb}
 use Rattle.rules.specs.Measures as M
 use Rattle.rules.specs.Base.{pick, each, halfUp}
 use Rattle.rules.specs.Plan.{Node, nodeAt, depthAt}
-use Rattle.rules.specs.Levels.{Cell, shown, columnAt, cellAt, view, inRow}
+use Rattle.rules.specs.Levels.{Cell, columnAt, cellAt, view, inRow}
 use Rattle.rules.specs.Measures.{width, height, columnOffset, rowOffset}
-use Rattle.rules.specs.Drawing.{boxes}
+use Rattle.rules.specs.Drawing.{Marks}
 use Rattle.rules.proofs.Lists.{mem-keep}
 use Rattle.levels.specs.Between.{cellOf}
 use Rattle.marks.specs.Joint.{Joint, atColumn, jointOf}
@@ -63,13 +63,12 @@ room-for w r a b x n t X W Y H cell bw aX XW W6 xm tW top end bend mid low nH wf
       stands = λ e. let o = one e in record { below = omega arith; lined = o; ends = omega arith; bends = omega arith };
     }
 
-module _ {p : List Node} {g : ℕ → ℕ → ℕ} {w h : ℕ} {T : List ℕ} {nodes : ℕ} {C L G cx xs : List ℕ} {ncols : ℕ} {cy ys : List ℕ} {nrows : ℕ}
-    (q : Ready p g w h T nodes C L G cx xs ncols cy ys nrows) where
+module _ {len : List ℕ → ℕ} {marks : Marks} {p : List Node} {g : ℕ → ℕ → ℕ} {w h : ℕ} {T : List ℕ} {nodes : ℕ} {C L G cx xs : List ℕ} {ncols : ℕ} {cy ys : List ℕ} {nrows : ℕ}
+    (q : Ready len marks p g w h T nodes C L G cx xs ncols cy ys nrows) where
   drawn : Laid (view p)
-  drawn = laid length boxes p (q .drawable)
+  drawn = laid len marks p (q .drawable)
 
-  shown-some : (k : ℕ) → k < length p → eqb (length (shown (nodeAt p k))) 0 ≡ false
-  unfolding shown
+  shown-some : (k : ℕ) → k < length p → eqb (length (nodeAt p k .title)) 0 ≡ false
   shown-some k b = ne-eqb (length (nodeAt p k .title)) 0 (λ e. omega (arith, q .titled k (omega (arith, q .counted))))
 
   cell-in : (n k : ℕ) → k < n → n ≤ length p → List·Memᴰ (cellOf p k) (each (cellAt p) n)
@@ -119,7 +118,7 @@ module _ {p : List Node} {g : ℕ → ℕ → ℕ} {w h : ℕ} {T : List ℕ} {n
     unfolding jointOf ps ks
     by-tests =
         joint-tests j 0 (view p .columns) ps ks
-        (chain-of length boxes (view p) (drawn .proper-view) (drawn .rising-view) (drawn .few-rows) i (omega (arith, drawn .few-rows))) hj
+        (chain-of len marks (view p) (drawn .proper-view) (drawn .rising-view) (drawn .few-rows) i (omega (arith, drawn .few-rows))) hj
 
     on-test : some (r .on) j ≡ not (eqb (goesIn (r .here) (r .next) j (ncols - 1 - j)) 0)
     on-test = ap (λ (k : ℕ). not (eqb k 0)) (o .on-is j (omega (arith, q .numbers .columns-are)))
@@ -135,7 +134,7 @@ module _ {p : List Node} {g : ℕ → ℕ → ℕ} {w h : ℕ} {T : List ℕ} {n
         ∙ sym (rw (u, on-test)
         (ap (λ (s : Bool). upTo j ps && s)
         (goes-on (r .here) (r .next) ps ks (view p .columns) here-test next-test
-        (chain-of length boxes (view p) (drawn .proper-view) (drawn .rising-view) (drawn .few-rows) i (omega (arith, drawn .few-rows)))
+        (chain-of len marks (view p) (drawn .proper-view) (drawn .rising-view) (drawn .few-rows) i (omega (arith, drawn .few-rows)))
         (λ c m. drawn .proper-view .column-in c (mem-inRow (view p .cells) i m .0)) (ncols - 1 - j) j (omega arith)))))
 
     -- a line that comes down
@@ -146,7 +145,7 @@ module _ {p : List Node} {g : ℕ → ℕ → ℕ} {w h : ℕ} {T : List ℕ} {n
         go : (k : ℕ) → i ≡ k → seenTo (r .above) (suc j) && some (r .here) j ≡ upOf (view p) i j
         go zero e = rw (o .above-is, e, none-above T C nodes (suc j) (omega (arith, e256)))
         go (suc k) e =
-            let ch = chain-of length boxes (view p) (drawn .proper-view) (drawn .rising-view) (drawn .few-rows) k (omega (arith, drawn .few-rows)) in
+            let ch = chain-of len marks (view p) (drawn .proper-view) (drawn .rising-view) (drawn .few-rows) k (omega (arith, drawn .few-rows)) in
             let z = add-one k in
             let t = joint-tests j 0 (view p .columns) (inRow (view p .cells) k) (inRow (view p .cells) (k + 1)) ch hj in
             let u =
@@ -166,7 +165,7 @@ module _ {p : List Node} {g : ℕ → ℕ → ℕ} {w h : ℕ} {T : List ℕ} {n
     unfolding sizeOf pick
     none l z = rw (eq-eqb (getD (r .here) j 0) 0 z)
 
-    boxed-at : (c : Cell) → List·Memᴰ c (view p .cells) → c .row ≡ i → c .column ≡ j → Boxed (view p) c (spotIn r L G cx j)
+    boxed-at : (c : Cell) → List·Memᴰ c (view p .cells) → c .row ≡ i → c .column ≡ j → Boxed len (view p) c (spotIn r L G cx j)
     boxed-at c m a b =
         let z : getD (r .here) j 0 ≡ 0 → ⊥ = filled in
         let t = there z in
@@ -174,13 +173,13 @@ module _ {p : List Node} {g : ℕ → ℕ → ℕ} {w h : ℕ} {T : List ℕ} {n
         let l : k < length p = omega (arith, t .within, q .counted) in
         let e : c ≡ cellOf p k = drawn .proper-view .one c (cellOf p k) m (cell-mem k l) (a ∙ sym (t .depth-is)) (b ∙ sym (t .column-is)) in
         let n : sizeOf L (getD (r .here) j 0) ≡ linesAt p k = sizes (linesAt p) L (q .lines-are) z in
-        let u : sizeOf G (getD (r .here) j 0) ≡ longestAt p k = sizes (longestAt p) G (q .longest-are) z in
-        let x : getD cx j 0 ≡ M.cx length (view p) (columnAt p k) = q .numbers .cx-is j hj ∙ ap (M.cx length (view p)) (sym (t .column-is)) in
+        let u : sizeOf G (getD (r .here) j 0) ≡ longestAt len p k = sizes (longestAt len p) G (q .longest-are) z in
+        let x : getD cx j 0 ≡ M.cx len (view p) (columnAt p k) = q .numbers .cx-is j hj ∙ ap (M.cx len (view p)) (sym (t .column-is)) in
         let y : r .middle ≡ M.cy (view p) (depthAt p k) = o .middle-is ∙ q .numbers .cy-is i hi ∙ ap (M.cy (view p)) (sym (t .depth-is)) in
         record {
-          left-is = rw (x, u, e) (node-left p k (shown-some k l));
+          left-is = rw (x, u, e) (node-left p k (shown-some k l) len);
           top-is = rw (y, n, e) (node-top p k (shown-some k l));
-          right-is = rw (x, u, e) (node-right p k (shown-some k l));
+          right-is = rw (x, u, e) (node-right p k (shown-some k l) len);
           bottom-is = rw (y, n, e) (node-bottom p k (shown-some k l));
         }
       where
@@ -190,13 +189,13 @@ module _ {p : List Node} {g : ℕ → ℕ → ℕ} {w h : ℕ} {T : List ℕ} {n
             (sym (ap (λ (k : ℕ). not (eqb k 0)) z) ∙ here-test j hj
             ∙ at-mem j ps c (unfold ps inRow in mem-keep (λ (d : Cell). eqb (d .row) i) (view p .cells) m (eq-eqb (c .row) i a)) b)
 
-    pub spotted : Spotted (view p) i j (spotIn r L G cx j)
+    pub spotted : Spotted len (view p) i j (spotIn r L G cx j)
     spotted =
         record {
           joint-is = joint-at;
           up-is = up-at;
           line-is = ap (λ (k : ℕ). k - 1) (q .numbers .cx-is j hj);
-          bend-is = o .bend-is ∙ row-bends (view p) (q .numbers) i hi;
+          bend-is = o .bend-is ∙ row-bends len marks (view p) (q .numbers) i hi;
           boxed = boxed-at;
         }
 
@@ -215,28 +214,28 @@ module _ {p : List Node} {g : ℕ → ℕ → ℕ} {w h : ℕ} {T : List ℕ} {n
               record {
                 node = omega (arith, t .within, q .counted, q .small .nodes);
                 room =
-                    rw (sizes (linesAt p) L (q .lines-are) z, sizes (longestAt p) G (q .longest-are) z)
-                    (room (linesAt p k) (longestAt p k) (rw (t .column-is) at (fits-width p k l)) (rw (t .depth-is) at (fits-height p k l))
-                    (lines-at-le p (q .small) k l) (longest-at-le p (q .small) k l)
+                    rw (sizes (linesAt p) L (q .lines-are) z, sizes (longestAt len p) G (q .longest-are) z)
+                    (room (linesAt p k) (longestAt len p k) (rw (t .column-is) at (fits-width len p k l)) (rw (t .depth-is) at (fits-height p k l))
+                    (lines-at-le p (q .small) k l) (longest-at-le p (q .small) k l len (q .short))
                     (λ e. omega (arith, cell-lines p k (shown-some k l), drawn .proper-view .lined (cellOf p k) (cell-mem k l))));
               })
         ]
       where
-        c : Column-part (view p) j
-        c = column-part (view p) j hj
+        c : Column-part len (view p) j
+        c = column-part len marks (view p) j hj
 
         d : Row-part (view p) i
-        d = row-part (view p) i hi
+        d = row-part len marks (view p) i hi
 
-        room : (n t : ℕ) → t + 6 ≤ width length (view p) j → n + 2 ≤ height (view p) i → n ≤ 1025 → t ≤ 1024 → (some (r .here) j ≡ true → 1 ≤ n)
+        room : (n t : ℕ) → t + 6 ≤ width len (view p) j → n + 2 ≤ height (view p) i → n ≤ 1025 → t ≤ 1024 → (some (r .here) j ≡ true → 1 ≤ n)
             → Room w r (getD xs j 0) (endAt xs ncols w j) (getD cx j 0) n t (some (r .here) j)
         room n t a b f g one =
             let x = q .numbers .cx-is j hj in
             let y : r .middle ≡ M.cy (view p) i = o .middle-is ∙ q .numbers .cy-is i hi in
-            let s = column-stop (view p) (q .numbers) j hj in
-            let u = row-stop (view p) (q .numbers) i hi in
+            let s = column-stop len marks (view p) (q .numbers) j hj in
+            let u = row-stop len marks (view p) (q .numbers) i hi in
             let ww = q .numbers .wide in
-            room-for w r (getD xs j 0) (endAt xs ncols w j) (getD cx j 0) n t (columnOffset length (view p) j) (width length (view p) j) (rowOffset (view p) i) (height (view p) i) (some (r .here) j)
+            room-for w r (getD xs j 0) (endAt xs ncols w j) (getD cx j 0) n t (columnOffset len (view p) j) (width len (view p) j) (rowOffset (view p) i) (height (view p) i) (some (r .here) j)
             (omega (arith, c .on-canvas)) (q .numbers .x-is j hj) (omega (arith, c .to-least)) (c .wide) (x ∙ c .middle) a
-            (o .top-is ∙ q .numbers .y-is i hi) (omega (arith, o .end-is, d .to-least)) (o .bend-is ∙ row-bends (view p) (q .numbers) i hi) (y ∙ d .middle) (d .low) b
-            (omega (arith, cx-le p (q .small) j (omega (arith, e256)))) (omega (arith, cy-le p (q .small) i (omega (arith, drawn .few-rows)))) one
+            (o .top-is ∙ q .numbers .y-is i hi) (omega (arith, o .end-is, d .to-least)) (o .bend-is ∙ row-bends len marks (view p) (q .numbers) i hi) (y ∙ d .middle) (d .low) b
+            (omega (arith, cx-le len (q .short) p (q .small) j (omega (arith, e256)))) (omega (arith, cy-le p (q .small) i (omega (arith, drawn .few-rows)))) one

@@ -7,7 +7,7 @@ use native.Mathlib.Numerals.{add-one}
 use native.Mathlib.Omega.{arith}
 use lib.ListN.{getD}
 use Rattle.rules.specs.Base.{every, halfUp}
-use Rattle.rules.specs.Drawing.{boxes}
+use Rattle.rules.specs.Drawing.{Marks}
 use Rattle.rules.proofs.Candidate.{from}
 use Rattle.marks.specs.Alike.{alikeIn}
 use Rattle.marks.specs.Spot.{Spot, spotMark}
@@ -52,39 +52,39 @@ pub seen-step : (l : List ℕ) (j : ℕ) (b : Bool) → b ≡ seenTo l j → (b 
 unfolding seenTo
 seen-step l j b e = rw (add-one j, e)
 
-module _ (cells : List ℕ) (width : ℕ) (r : Row) (lines longest cx xs : List ℕ) (ncols : ℕ) where
+module _ (marks : Marks) (cells : List ℕ) (width : ℕ) (r : Row) (lines longest cx xs : List ℕ) (ncols : ℕ) where
   -- the answer for column j, by the flags before it and what was asked of its node
   pub strip-is : (j b n t : ℕ) (s : F.Spot) (seen over same : Bool) → seen ≡ seenTo (r .here) j → over ≡ seenTo (r .above) j
       → n ≡ sizeOf lines (getD (r .here) j 0) → t ≡ sizeOf longest (getD (r .here) j 0)
       → plain s
       ≡ spotBy (some (r .here) j) ((over || some (r .above) j) && some (r .here) j) ((seen || some (r .here) j) && some (r .next) j) ((seen || some (r .here) j) && some (r .on) j) (r .bend) (getD cx j 0) (r .middle) n t
       → b ≡ endAt xs ncols width j
-      → same ≡ alikeIn (λ x y. getD cells (y * width + x) 0) (λ x y. spotMark boxes (plain s) (getD cells (y * width + x) 0) x y) (getD xs j 0) b (r .top) (r .end)
-      → same ≡ stripSame cells width r lines longest cx xs ncols j
+      → same ≡ alikeIn (λ x y. getD cells (y * width + x) 0) (λ x y. spotMark marks (plain s) (getD cells (y * width + x) 0) x y) (getD xs j 0) b (r .top) (r .end)
+      → same ≡ stripSame marks cells width r lines longest cx xs ncols j
   unfolding stripSame seenTo
   strip-is j b n t s seen over same ee eo en et es eb e =
       let z : plain s ≡ spotIn r lines longest cx j = es ∙ rw (ee, eo, en, et) in
       e
-      ∙ ap (λ (q : Spot). alikeIn (λ x y. getD cells (y * width + x) 0) (λ x y. spotMark boxes q (getD cells (y * width + x) 0) x y) (getD xs j 0) b (r .top) (r .end)) z
+      ∙ ap (λ (q : Spot). alikeIn (λ x y. getD cells (y * width + x) 0) (λ x y. spotMark marks q (getD cells (y * width + x) 0) x y) (getD xs j 0) b (r .top) (r .end)) z
       ∙ rw eb
 
-  pub strips-none : stripsSame cells width r lines longest cx xs ncols 0 ≡ true
+  pub strips-none : stripsSame marks cells width r lines longest cx xs ncols 0 ≡ true
   unfolding every from
   strips-none = refl
 
-  pub strips-next : (j : ℕ) → stripsSame cells width r lines longest cx xs ncols (j + 1) ≡ stripsSame cells width r lines longest cx xs ncols j && stripSame cells width r lines longest cx xs ncols j
+  pub strips-next : (j : ℕ) → stripsSame marks cells width r lines longest cx xs ncols (j + 1) ≡ stripsSame marks cells width r lines longest cx xs ncols j && stripSame marks cells width r lines longest cx xs ncols j
   unfolding every from
   strips-next j =
       let z : 0 + j ≡ j = omega arith in
-      every-split (stripSame cells width r lines longest cx xs ncols) 0 j 1 ∙ rw (z, and-true (stripSame cells width r lines longest cx xs ncols j))
+      every-split (stripSame marks cells width r lines longest cx xs ncols) 0 j 1 ∙ rw (z, and-true (stripSame marks cells width r lines longest cx xs ncols j))
 
-  pub strips-more : (j : ℕ) → stripsSame cells width r lines longest cx xs ncols j ≡ true → true ≡ stripSame cells width r lines longest cx xs ncols j
-      → stripsSame cells width r lines longest cx xs ncols (j + 1) ≡ true
+  pub strips-more : (j : ℕ) → stripsSame marks cells width r lines longest cx xs ncols j ≡ true → true ≡ stripSame marks cells width r lines longest cx xs ncols j
+      → stripsSame marks cells width r lines longest cx xs ncols (j + 1) ≡ true
   strips-more j e f = strips-next j ∙ rw (e, ← f)
 
-  pub strips-not : (j m : ℕ) → j < m → false ≡ stripSame cells width r lines longest cx xs ncols j → false ≡ stripsSame cells width r lines longest cx xs ncols m
-  strips-not j m h f = go (stripsSame cells width r lines longest cx xs ncols m) refl
+  pub strips-not : (j m : ℕ) → j < m → false ≡ stripSame marks cells width r lines longest cx xs ncols j → false ≡ stripsSame marks cells width r lines longest cx xs ncols m
+  strips-not j m h f = go (stripsSame marks cells width r lines longest cx xs ncols m) refl
     where
-      go : (b : Bool) → stripsSame cells width r lines longest cx xs ncols m ≡ b → false ≡ stripsSame cells width r lines longest cx xs ncols m
-      go true e = absurd (false≢true (f ∙ every-all (stripSame cells width r lines longest cx xs ncols) 0 m e j (omega arith) (omega arith)))
+      go : (b : Bool) → stripsSame marks cells width r lines longest cx xs ncols m ≡ b → false ≡ stripsSame marks cells width r lines longest cx xs ncols m
+      go true e = absurd (false≢true (f ∙ every-all (stripSame marks cells width r lines longest cx xs ncols) 0 m e j (omega arith) (omega arith)))
       go false e = sym e

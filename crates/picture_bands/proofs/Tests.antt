@@ -11,7 +11,7 @@ use lib.Seq.{getD-set-same, getD-set-other}
 use borrow.Author.Tests.{eq-eqb, ne-eqb}
 use Rattle.rules.specs.Base.{pick, keep, each}
 use Rattle.rules.specs.Plan.{Node, depthIn, nodeAt, depthAt}
-use Rattle.rules.specs.Levels.{Cell, shown, columnAt, cellAt, inRow}
+use Rattle.rules.specs.Levels.{Cell, columnAt, cellAt, inRow}
 use Rattle.rules.proofs.Keeps.{keep-append}
 use Rattle.levels.specs.Between.{cellOf}
 use Rattle.marks.specs.Joint.{atColumn}
@@ -78,7 +78,7 @@ module _ (p : List Node) (T C : List ℕ) (dep : (k : ℕ) → k < length p → 
 
   -- a column has a node of the row where the row has a cell
   pub some-at : (i j n : ℕ) → j < 256 → n ≤ length p → some (nodesIn T C (i + 1) n) j ≡ atColumn j (inRow (each (cellAt p) n) i)
-  unfolding each inRow keep atColumn shown pick
+  unfolding each inRow keep atColumn pick
   some-at i j zero h b = ap (λ (k : ℕ). not (eqb k 0)) (no-node (i + 1) j h)
   some-at i j (suc n) h b =
       ap (λ (k : ℕ). not (eqb k 0)) (entry i j n h b)

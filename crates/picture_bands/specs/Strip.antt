@@ -6,7 +6,7 @@ use Prim.Native.Nat.{ℕ, suc, _+_, _-_, _*_, _/_, _^_, _≤_, _<_}
 use lib.Dec.{eqb}
 use lib.ListN.{getD}
 use Rattle.rules.specs.Base.{pick, every, halfUp}
-use Rattle.rules.specs.Drawing.{boxes}
+use Rattle.rules.specs.Drawing.{Marks}
 use Rattle.rules.proofs.Candidate.{from}
 use Rattle.marks.specs.Alike.{alikeIn}
 use Rattle.marks.specs.Spot.{Spot, spotMark}
@@ -18,7 +18,7 @@ use Rattle.picture_bands.specs.Row.{Row, some, seenTo}
 unfoldable pub sizeOf : List ℕ → ℕ → ℕ
 sizeOf sizes k = pick (eqb k 0) 0 (getD sizes (k - 1) 0)
 
--- the spot of a cell of n lines, the longest of t bytes, centred at (cx, cy); of no lines where there is no cell
+-- the spot of a cell of n lines, the longest of t, centred at (cx, cy); of no lines where there is no cell
 abbrev pub spotBy : (cell up child on : Bool) (bend cx cy n t : ℕ) → Spot
 spotBy cell up child on bend cx cy n t =
     record {
@@ -39,14 +39,14 @@ spotIn r lines longest cx j =
     (seenTo (r .here) (suc j) && some (r .on) j) (r .bend) (getD cx j 0) (r .middle) (sizeOf lines (getD (r .here) j 0)) (sizeOf longest (getD (r .here) j 0))
 
 -- the marks in column j of a row are its spot's
-unfoldable pub stripSame : (cells : List ℕ) (width : ℕ) (r : Row) (lines longest cx xs : List ℕ) (ncols j : ℕ) → Bool
-stripSame cells width r lines longest cx xs ncols j =
-    alikeIn (λ x y. getD cells (y * width + x) 0) (λ x y. spotMark boxes (spotIn r lines longest cx j) (getD cells (y * width + x) 0) x y)
+unfoldable pub stripSame : (marks : Marks) (cells : List ℕ) (width : ℕ) (r : Row) (lines longest cx xs : List ℕ) (ncols j : ℕ) → Bool
+stripSame marks cells width r lines longest cx xs ncols j =
+    alikeIn (λ x y. getD cells (y * width + x) 0) (λ x y. spotMark marks (spotIn r lines longest cx j) (getD cells (y * width + x) 0) x y)
     (getD xs j 0) (endAt xs ncols width j) (r .top) (r .end)
 
 -- the marks of the first m columns
-abbrev pub stripsSame : (cells : List ℕ) (width : ℕ) (r : Row) (lines longest cx xs : List ℕ) (ncols m : ℕ) → Bool
-stripsSame cells width r lines longest cx xs ncols m = every (stripSame cells width r lines longest cx xs ncols) (from 0 m)
+abbrev pub stripsSame : (marks : Marks) (cells : List ℕ) (width : ℕ) (r : Row) (lines longest cx xs : List ℕ) (ncols m : ℕ) → Bool
+stripsSame marks cells width r lines longest cx xs ncols m = every (stripSame marks cells width r lines longest cx xs ncols) (from 0 m)
 
 -- a box of n lines between the row's top, its bend and its end
 pub record Within (r : Row) (n : ℕ) : Type 0 where
@@ -55,7 +55,7 @@ pub record Within (r : Row) (n : ℕ) : Type 0 where
   pub ends : bottomOf (r .middle) n < r .end
   pub bends : bottomOf (r .middle) n < r .bend
 
--- column j, from a up to b, with its centre at x, has room for a box of n lines, the longest of t bytes
+-- column j, from a up to b, with its centre at x, has room for a box of n lines, the longest of t
 pub record Room (width : ℕ) (r : Row) (a b x n t : ℕ) (cell : Bool) : Type 0 where
   pub on-canvas : b ≤ width
   pub left-room : a + halfUp t + 2 ≤ x

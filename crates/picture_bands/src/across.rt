@@ -5,11 +5,13 @@ ghost use Prim.Native.Nat.{ℕ, _+_, _*_, _/_, _^_, _≤_, _<_};
 ghost use lib.Dec.{eqb};
 ghost use lib.ListN.{length};
 ghost use Rattle.rules.specs.Base.{halfUp};
+ghost use Rattle.rules.specs.Look.{marksIn};
 ghost use Rattle.marks.specs.Numbers.{endAt};
 ghost use Rattle.picture_field.specs.Fits.{plain};
 ghost use Rattle.picture_bands.specs.Row.{rowBy};
 ghost use Rattle.picture_bands.specs.Strip.{sizeOf, spotBy, stripsSame, Apt};
 use picture_field::Spot;
+use rules::Glyphs;
 
 // Where column j ends: where the next one begins, the last with the canvas.
 fn column_end(xs: &[u32; 256], ncols: u32, j: usize, width: u32) -> u32
@@ -33,7 +35,7 @@ fn size_of(sizes: &[u32; 256], k: usize) -> u32
     sizes[k - 1]
 }
 
-// The spot of node k - 1, of n lines, the longest of t bytes, centred at (cx, cy); of no cell where k is 0.
+// The spot of node k - 1, of n lines, the longest of t, centred at (cx, cy); of no cell where k is 0.
 fn spot_of(
     k: usize,
     up: bool,
@@ -68,6 +70,7 @@ fn spot_of(
 pub(crate) fn columns_same(
     cells: &[u32],
     width: u32,
+    g: Glyphs,
     above: &[u16; 256],
     here: &[u16; 256],
     next: &[u16; 256],
@@ -84,7 +87,7 @@ pub(crate) fn columns_same(
 ) -> bool
     requires { ⌜ (end * width ≤ length (now cells)) × (top ≤ bend) × (ncols ≤ 256) ⌝ }
     requires { ⌜ ((j : ℕ) → j < ncols → Apt width (rowBy (now above) (now here) (now next) (now on) top end bend middle) (now lines) (now longest) (now cx) (now xs) ncols j) ⌝ }
-    ensures { λ r. ⌜ r ≡ stripsSame (now (cells .entry)) width (rowBy (now (above .entry)) (now (here .entry)) (now (next .entry)) (now (on .entry)) top end bend middle) (now (lines .entry)) (now (longest .entry)) (now (cx .entry)) (now (xs .entry)) ncols ncols ⌝ }
+    ensures { λ r. ⌜ r ≡ stripsSame (marksIn g) (now (cells .entry)) width (rowBy (now (above .entry)) (now (here .entry)) (now (next .entry)) (now (on .entry)) top end bend middle) (now (lines .entry)) (now (longest .entry)) (now (cx .entry)) (now (xs .entry)) ncols ncols ⌝ }
 {
     let n = text::wide(ncols);
     let mut seen = false;
@@ -108,7 +111,7 @@ pub(crate) fn columns_same(
             size_of(longest, k),
         );
         let b = column_end(xs, ncols, j, width);
-        if picture_field::block_same(cells, width, s, xs[j], b, top, end) {
+        if picture_field::block_same(cells, width, g, s, xs[j], b, top, end) {
             j += 1;
         } else {
             return false;

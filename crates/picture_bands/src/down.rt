@@ -4,7 +4,7 @@ ghost use Prim.Native.Nat.{_+_, _*_, _≤_, _<_};
 ghost use lib.ListN.{length};
 ghost use Rattle.rules.specs.Levels.{view};
 ghost use Rattle.rules.specs.Measures.{d};
-ghost use Rattle.rules.specs.Drawing.{boxes};
+ghost use Rattle.rules.specs.Look.{lenOf, marksIn};
 ghost use Rattle.marks.specs.Alike.{alikeIn};
 ghost use Rattle.marks.specs.Whole.{markAt};
 ghost use Rattle.picture_sight.specs.Seen.{seen};
@@ -17,12 +17,16 @@ use crate::nodes::onward;
 use crate::nodes::row_cells;
 use crate::row::row_bend;
 use crate::row::row_end;
+use rules::Glyphs;
+use rules::Measure;
 
 // The band of row i and the gap under it are as they are drawn, right of the axis; `above` and `here` are the nodes of the row above and of row i, and `next` becomes those of the next.
 fn band_same(
     cells: &[u32],
     width: u32,
     height: u32,
+    measure: Measure,
+    g: Glyphs,
     table: &[u32],
     nodes: usize,
     column: &[u32; 256],
@@ -42,10 +46,10 @@ fn band_same(
 ) -> bool
     requires { ⌜ (width * height ≤ length (now cells)) × (i < nrows) × (length (now on) ≡ 256) ⌝ }
     requires { ⌜ (now above ≡ nodesIn (now table) (now column) i nodes) × (now here ≡ nodesIn (now table) (now column) (i + 1) nodes) ⌝ }
-    requires { ⌜ Ready (planSeen (now cells) width height) (seen (now cells) width height) width height (now table) nodes (now column) (now lines) (now longest) (now cx) (now xs) ncols (now cy) (now ys) nrows ⌝ }
-    ensures { λ r. ⌜ r ≡ alikeIn (seen (now (cells .entry)) width height) (markAt length boxes (view (planSeen (now (cells .entry)) width height)))
-        (d (view (planSeen (now (cells .entry)) width height)) + 4) width
-        (rowFrom (view (planSeen (now (cells .entry)) width height)) i) (rowFrom (view (planSeen (now (cells .entry)) width height)) (i + 1)) ⌝ }
+    requires { ⌜ Ready (lenOf measure) (marksIn g) (planSeen (marksIn g) (now cells) width height) (seen (now cells) width height) width height (now table) nodes (now column) (now lines) (now longest) (now cx) (now xs) ncols (now cy) (now ys) nrows ⌝ }
+    ensures { λ r. ⌜ r ≡ alikeIn (seen (now (cells .entry)) width height) (markAt (lenOf measure) (marksIn g) (view (planSeen (marksIn g) (now (cells .entry)) width height)))
+        (d (view (planSeen (marksIn g) (now (cells .entry)) width height)) + 4) width
+        (rowFrom (view (planSeen (marksIn g) (now (cells .entry)) width height)) i) (rowFrom (view (planSeen (marksIn g) (now (cells .entry)) width height)) (i + 1)) ⌝ }
     ensures { λ r. ⌜ (now (next .exit) ≡ nodesIn (now (table .entry)) (now (column .entry)) (i + 2) nodes) × (length (now (on .exit)) ≡ 256) ⌝ }
 {
     row_cells(table, nodes, column, i + 2, next);
@@ -56,6 +60,7 @@ fn band_same(
     columns_same(
         cells,
         width,
+        g,
         above,
         here,
         next,
@@ -77,6 +82,8 @@ pub fn bands_same(
     cells: &[u32],
     width: u32,
     height: u32,
+    measure: Measure,
+    g: Glyphs,
     table: &[u32],
     nodes: usize,
     column: &[u32; 256],
@@ -90,9 +97,9 @@ pub fn bands_same(
     nrows: u32,
 ) -> bool
     requires { ⌜ width * height ≤ length (now cells) ⌝ }
-    requires { ⌜ Ready (planSeen (now cells) width height) (seen (now cells) width height) width height (now table) nodes (now column) (now lines) (now longest) (now cx) (now xs) ncols (now cy) (now ys) nrows ⌝ }
-    ensures { λ r. ⌜ r ≡ alikeIn (seen (now (cells .entry)) width height) (markAt length boxes (view (planSeen (now (cells .entry)) width height)))
-        (d (view (planSeen (now (cells .entry)) width height)) + 4) width 3 height ⌝ }
+    requires { ⌜ Ready (lenOf measure) (marksIn g) (planSeen (marksIn g) (now cells) width height) (seen (now cells) width height) width height (now table) nodes (now column) (now lines) (now longest) (now cx) (now xs) ncols (now cy) (now ys) nrows ⌝ }
+    ensures { λ r. ⌜ r ≡ alikeIn (seen (now (cells .entry)) width height) (markAt (lenOf measure) (marksIn g) (view (planSeen (marksIn g) (now (cells .entry)) width height)))
+        (d (view (planSeen (marksIn g) (now (cells .entry)) width height)) + 4) width 3 height ⌝ }
 {
     let mut above = [0u16; 256];
     let mut here = [0u16; 256];
@@ -105,6 +112,8 @@ pub fn bands_same(
             cells,
             width,
             height,
+            measure,
+            g,
             table,
             nodes,
             column,

@@ -11,7 +11,7 @@ use Rattle.rules.specs.Measures as M
 use Rattle.rules.specs.Base.{pick}
 use Rattle.rules.specs.Lines.{digits}
 use Rattle.rules.specs.Levels.{View, view}
-use Rattle.rules.specs.Drawing.{boxes}
+use Rattle.rules.specs.Drawing.{Marks}
 use Rattle.rules.proofs.Bounds.{Small}
 use Rattle.marks.specs.Alike.{alikeIn}
 use Rattle.marks.specs.Numbers.{Numbers}
@@ -42,38 +42,38 @@ by-cells cells w h a q m k l e =
     rw (seen-block cells w h m 0 w 0 3 (omega arith) (omega arith), z, seen-block cells w h m 0 (a + 2) 3 h (omega arith) (omega arith))
 
 -- what the numbers of a plan give, in n cells
-pub record Ready (v : View) (w h ncols nrows a n : ℕ) (cx xs cy ys : List ℕ) : Type 0 where
-  pub across : Across v w ncols a cx xs
-  pub down : Down v w h nrows a cy ys
+pub record Ready (len : List ℕ → ℕ) (v : View) (w h ncols nrows a n : ℕ) (cx xs cy ys : List ℕ) : Type 0 where
+  pub across : Across len v w ncols a cx xs
+  pub down : Down len v w h nrows a cy ys
   pub room : Roomy w ncols cx xs
   pub narrow : a + 2 < w
   pub high : 5 ≤ h
   pub three-rows : 3 * w ≤ n
 
-module _ (cells : List ℕ) (w h ncols nrows : ℕ) (cx xs cy ys : List ℕ)
-    (given : (w * h ≤ length cells) × (w * h ≤ 1048576) × Drawable (planSeen cells w h) × Small (planSeen cells w h)
-    × Numbers (view (planSeen cells w h)) w h ncols nrows cx xs cy ys) where
+module _ (len : List ℕ → ℕ) (marks : Marks) (cells : List ℕ) (w h ncols nrows : ℕ) (cx xs cy ys : List ℕ)
+    (given : (w * h ≤ length cells) × (w * h ≤ 1048576) × Drawable (planSeen marks cells w h) × Small (planSeen marks cells w h)
+    × Numbers len (view (planSeen marks cells w h)) w h ncols nrows cx xs cy ys) where
   pub rows-some : (0 < nrows) × (nrows ≤ 256)
   rows-some =
       let (fits, small, dr, sm, nm) = given in
-      let l = laid length boxes (planSeen cells w h) dr in
-      (omega (arith, nm .rows-are, l .proper-view .rowed), omega (arith, nm .rows-are, rows-le (planSeen cells w h) sm))
+      let l = laid len marks (planSeen marks cells w h) dr in
+      (omega (arith, nm .rows-are, l .proper-view .rowed), omega (arith, nm .rows-are, rows-le (planSeen marks cells w h) sm))
 
   -- r digits of the last row's index, and the axis 2 after them
-  pub ready : (r q : ℕ) → r ≡ length (digits (nrows - 1)) → q ≡ r → Ready (view (planSeen cells w h)) w h ncols nrows (q + 2) (length cells) cx xs cy ys
+  pub ready : (r q : ℕ) → r ≡ length (digits (nrows - 1)) → q ≡ r → Ready len (view (planSeen marks cells w h)) w h ncols nrows (q + 2) (length cells) cx xs cy ys
   unfolding M.d
   ready r q f e =
       let (fits, small, dr, sm, nm) = given in
-      let p = planSeen cells w h in
-      let pv = laid length boxes p dr .proper-view in
+      let p = planSeen marks cells w h in
+      let pv = laid len marks p dr .proper-view in
       let z : q + 2 ≡ M.d (view p) + 2 = rw (e, f, nm .rows-are) in
-      let low = wide-low length boxes (view p) pv in
-      let tall : 5 ≤ h = omega (arith, nm .high, high-low length boxes (view p) pv) in
-      let u : Across (view p) w ncols (q + 2) cx xs = record { proper = pv; axis-at = z; wide = nm .wide; columns-are = nm .columns-are; cx-is = nm .cx-is; x-is = nm .x-is } in
+      let low = wide-low len marks (view p) pv in
+      let tall : 5 ≤ h = omega (arith, nm .high, high-low len marks (view p) pv) in
+      let u : Across len (view p) w ncols (q + 2) cx xs = record { proper = pv; axis-at = z; wide = nm .wide; columns-are = nm .columns-are; cx-is = nm .cx-is; x-is = nm .x-is } in
       record {
         across = u;
         down = record { proper = pv; axis-at = z; wide = nm .wide; high = nm .high; rows-are = nm .rows-are; few = omega (arith, nm .rows-are, rows-le p sm); cy-is = nm .cy-is; y-is = nm .y-is };
-        room = is-roomy (view p) w ncols (q + 2) cx xs u (omega (arith, nm .columns-are, columns-le p sm));
+        room = is-roomy len marks (view p) w ncols (q + 2) cx xs u (omega (arith, nm .columns-are, columns-le p sm));
         narrow = omega (arith, nm .wide);
         high = tall;
         three-rows = omega (arith, mul-le-mul-right {m = 3} {n = h} w (omega arith), mul-comm w h);

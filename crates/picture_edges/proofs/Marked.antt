@@ -1,6 +1,7 @@
 -- What stands on rows 0 to 2, and left of the columns beside each row: the closed form of a drawing, run by run, by plain numbers.
 use mathlib.Core.Path.{_≡_, refl}
 use mathlib.Core.Bool.{true, _||_}
+use mathlib.Core.List.{List}
 use Prim.Native.Nat.{ℕ, suc, _+_, _-_, _≤_, _<_}
 use native.Mathlib.Decide.{decLe, ℕ-discrete}
 use native.Mathlib.Omega.{arith}
@@ -12,34 +13,35 @@ use Rattle.rules.specs.Base.{pick}
 use Rattle.rules.specs.Lines.{digits}
 use Rattle.rules.specs.Levels.{View}
 use Rattle.rules.specs.Measures.{height, width, rowOffset, columnOffset}
-use Rattle.rules.specs.Drawing.{boxes}
+use Rattle.rules.specs.Drawing.{Marks}
 use Rattle.marks.specs.Whole.{rowHolding, indexAt, headOf, axisOf, marginOf, markAt}
-use Rattle.marks.proofs.Places.{Proper, row, column}
-use Rattle.marks.proofs.Ends.{lawful}
+use Rattle.marks.proofs.Places.{row, column}
 use Rattle.marks.proofs.Whole.{column-held, row-held}
 use Rattle.picture_edges.specs.Edge.{indexed, ruled, besideRow}
 
-module _ (v : View) where
+module _ (len : List ℕ → ℕ) (marks : Marks) (v : View) where
+  open Marks marks using (─, │, ┌)
+
   -- ---- row 0
-  pub head-left : (x : ℕ) → x < M.d v + 4 → markAt length boxes v x 0 ≡ 32
+  pub head-left : (x : ℕ) → x < M.d v + 4 → markAt len marks v x 0 ≡ 32
   unfolding markAt pick
   head-left x h = rw (lt-ltb x (M.d v + 4) h)
 
-  pub head-in : Proper v → (j x : ℕ) → j < v .columns → columnOffset length v j ≤ x → x < columnOffset length v j + width length v j
-      → markAt length boxes v x 0 ≡ indexed j (indexAt length v j) x
+  pub head-in : (j x : ℕ) → j < v .columns → columnOffset len v j ≤ x → x < columnOffset len v j + width len v j
+      → markAt len marks v x 0 ≡ indexed j (indexAt len v j) x
   unfolding markAt pick headOf indexed
-  head-in pv j x h a b =
-      let c = column length boxes v j in
-      rw (le-ltb x (M.d v + 4) (omega arith), column-held length boxes v lawful pv j x h a b)
+  head-in j x h a b =
+      let c = column len marks v j in
+      rw (le-ltb x (M.d v + 4) (omega arith), column-held len marks v j x h a b)
 
   -- ---- row 1
-  pub axis-in : (x : ℕ) → markAt length boxes v x 1 ≡ ruled (λ k. 32) (M.d v + 2) 0x250C 0x2500 x
+  pub axis-in : (x : ℕ) → markAt len marks v x 1 ≡ ruled (λ k. 32) (M.d v + 2) ┌ ─ x
   unfolding markAt axisOf ruled pick
   axis-in x = refl
 
   -- ---- from row 2 on: g is what stands left of the axis
   beside : (x y : ℕ) (g : ℕ → ℕ) → 2 ≤ y → (x < M.d v + 2 → marginOf v (rowHolding v y) x y ≡ g x)
-      → (M.d v + 2 < x → (eqb x (M.d v + 3) || eqb y 2) ≡ true) → markAt length boxes v x y ≡ ruled g (M.d v + 2) 0x2502 32 x
+      → (M.d v + 2 < x → (eqb x (M.d v + 3) || eqb y 2) ≡ true) → markAt len marks v x y ≡ ruled g (M.d v + 2) │ 32 x
   unfolding markAt ruled pick
   beside x y g h f k =
       rw (ne-eqb y 0 (λ e. omega arith), ne-eqb y 1 (λ e. omega arith))
@@ -69,18 +71,18 @@ module _ (v : View) where
       elim (ℕ-discrete x (M.d v + 3)) [ yes h ↦ rw (eq-eqb x (M.d v + 3) h) | no h ↦ rw (ne-eqb x (M.d v + 3) h, eq-eqb y 2 e) ]
 
   -- ---- row 2
-  pub row-two : (x : ℕ) → markAt length boxes v x 2 ≡ ruled (λ k. 32) (M.d v + 2) 0x2502 32 x
+  pub row-two : (x : ℕ) → markAt len marks v x 2 ≡ ruled (λ k. 32) (M.d v + 2) │ 32 x
   row-two x =
       beside x 2 (λ k. 32) (omega arith)
-      (λ l. margin-no (rowHolding v 2) x 2 (λ e. absurd (let r = row length boxes v (rowHolding v 2) in omega arith))) (λ l. right-two x 2 refl)
+      (λ l. margin-no (rowHolding v 2) x 2 (λ e. absurd (let r = row len marks v (rowHolding v 2) in omega arith))) (λ l. right-two x 2 refl)
 
   -- ---- the other rows, left of the columns
-  pub side-in : Proper v → (i x y : ℕ) → i < v .rows → rowOffset v i ≤ y → y < rowOffset v i + height v i + 3 → x < M.d v + 4
-      → markAt length boxes v x y ≡ besideRow (M.d v + 2) i (M.cy v i) x y
+  pub side-in : (i x y : ℕ) → i < v .rows → rowOffset v i ≤ y → y < rowOffset v i + height v i + 3 → x < M.d v + 4
+      → markAt len marks v x y ≡ besideRow │ (M.d v + 2) i (M.cy v i) x y
   unfolding besideRow pick
-  side-in pv i x y h a b l =
-      let r = row length boxes v i in
-      let e = row-held length boxes v lawful pv i y h a b in
+  side-in i x y h a b l =
+      let r = row len marks v i in
+      let e = row-held len marks v i y h a b in
       elim (ℕ-discrete y (M.cy v i)) [
         | yes q ↦
             rw (eq-eqb y (M.cy v i) q)

@@ -1,9 +1,11 @@
 // Rows 0 to 2: the columns' indices, the axis, and a row of spaces.
 ghost use mathlib.Core.Path.{_≡_};
-ghost use Prim.Native.Nat.{_≤_, _<_, _+_, _*_};
+ghost use mathlib.Core.List.{List};
+ghost use Prim.Native.Nat.{ℕ, _≤_, _<_, _+_, _*_};
 ghost use lib.ListN.{length, getD};
 ghost use Rattle.rules.specs.Levels.{View};
-ghost use Rattle.rules.specs.Drawing.{boxes};
+ghost use Rattle.rules.specs.Drawing.{Marks};
+ghost use Rattle.rules.specs.Look.{marksIn};
 ghost use Rattle.marks.specs.Alike.{alike, alikeIn};
 ghost use Rattle.marks.specs.Whole.{markAt};
 ghost use Rattle.marks.specs.Numbers.{endAt};
@@ -12,12 +14,7 @@ use crate::run::SPACE;
 use crate::run::label_same;
 use crate::run::line_same;
 use crate::run::run_same;
-
-const CORNER: u32 = 0x250C;
-
-const HORIZONTAL: u32 = 0x2500;
-
-pub(crate) const VERTICAL: u32 = 0x2502;
+use rules::Glyphs;
 
 // Where column j ends: where the next one begins, the last with the canvas.
 fn column_end(xs: &[u32; 256], ncols: u32, j: u32, width: u32) -> u32
@@ -60,8 +57,8 @@ fn columns_same(
     a: usize,
 ) -> bool
     requires { ⌜ (width ≤ length (now cells)) × Roomy width ncols (now cx) (now xs) ⌝ }
-    ensures { λ r. ⌜ ((v : View) → Across v width ncols a (now (cx .entry)) (now (xs .entry))
-        → r ≡ alike (λ x. getD (now (cells .entry)) (0 + x) 0) (λ x. markAt length boxes v x 0) (a + 2) width) ⌝ }
+    ensures { λ r. ⌜ ((len : List ℕ → ℕ) (marks : Marks) (v : View) → Across len v width ncols a (now (cx .entry)) (now (xs .entry))
+        → r ≡ alike (λ x. getD (now (cells .entry)) (0 + x) 0) (λ x. markAt len marks v x 0) (a + 2) width) ⌝ }
 {
     let mut j = 0;
     while j < ncols {
@@ -77,20 +74,21 @@ fn columns_same(
 pub(crate) fn head_same(
     cells: &[u32],
     width: u32,
+    g: Glyphs,
     cx: &[u32; 256],
     xs: &[u32; 256],
     ncols: u32,
     a: usize,
 ) -> bool
     requires { ⌜ (3 * width ≤ length (now cells)) × (a + 2 < width) × Roomy width ncols (now cx) (now xs) ⌝ }
-    ensures { λ r. ⌜ ((v : View) → Across v width ncols a (now (cx .entry)) (now (xs .entry))
-        → r ≡ alikeIn (λ x y. getD (now (cells .entry)) (y * width + x) 0) (markAt length boxes v) 0 width 0 3) ⌝ }
+    ensures { λ r. ⌜ ((len : List ℕ → ℕ) (v : View) → Across len v width ncols a (now (cx .entry)) (now (xs .entry))
+        → r ≡ alikeIn (λ x y. getD (now (cells .entry)) (y * width + x) 0) (markAt len (marksIn g) v) 0 width 0 3) ⌝ }
 {
     let w = text::wide(width);
     if run_same(cells, 0, 0, a + 2, SPACE) {
         if columns_same(cells, width, cx, xs, ncols, a) {
-            if line_same(cells, w, a, CORNER, HORIZONTAL, w) {
-                return line_same(cells, 2 * w, a, VERTICAL, SPACE, w);
+            if line_same(cells, w, a, g.corner, g.horizontal, w) {
+                return line_same(cells, 2 * w, a, g.vertical, SPACE, w);
             }
         }
     }

@@ -1,41 +1,41 @@
 // Left of the columns: the axis, and the rows' indices.
 ghost use mathlib.Core.Path.{_≡_};
-ghost use Prim.Native.Nat.{_≤_, _<_, _+_, _*_};
+ghost use mathlib.Core.List.{List};
+ghost use Prim.Native.Nat.{ℕ, _≤_, _<_, _+_, _*_};
 ghost use lib.ListN.{length, getD};
 ghost use Rattle.rules.specs.Lines as rule;
-ghost use Rattle.rules.specs.Levels.{view};
-ghost use Rattle.rules.specs.Drawing.{boxes};
+ghost use Rattle.rules.specs.Levels.{View};
+ghost use Rattle.rules.specs.Look.{marksIn};
 ghost use Rattle.marks.specs.Alike.{alike, alikeIn};
 ghost use Rattle.marks.specs.Whole.{markAt};
 ghost use Rattle.marks.specs.Numbers.{endAt};
-ghost use Rattle.picture_sight.specs.Plan.{planSeen};
 ghost use Rattle.picture_edges.specs.Edge.{plainSide, indexSide, besideRow, Beside, Down};
-use crate::head::VERTICAL;
 use crate::run::SPACE;
 use crate::run::label_same;
 use crate::run::line_same;
 use crate::run::rest_same;
+use rules::Glyphs;
 
 // The cells from `base` on hold the index i, and the axis at x = a.
-fn center_same(cells: &[u32], base: usize, a: usize, i: u32) -> bool
+fn center_same(cells: &[u32], base: usize, a: usize, axis: u32, i: u32) -> bool
     requires { ⌜ (i < 256) × (length (rule.digits i) < a) × (base + (a + 2) ≤ length (now cells)) ⌝ }
-    ensures { λ r. ⌜ r ≡ alike (λ x. getD (now (cells .entry)) (base + x) 0) (indexSide a i) 0 (a + 2) ⌝ }
+    ensures { λ r. ⌜ r ≡ alike (λ x. getD (now (cells .entry)) (base + x) 0) (indexSide axis a i) 0 (a + 2) ⌝ }
 {
     let at = a - 1 - text::wide(text::digits(i));
     if label_same(cells, base, 0, a, at, i) {
-        return rest_same(cells, base, a, VERTICAL, SPACE, a + 2);
+        return rest_same(cells, base, a, axis, SPACE, a + 2);
     }
     false
 }
 
 // The rows from y = top on, before `end`, hold nothing but the axis at x = a.
-fn plains_same(cells: &[u32], width: usize, a: usize, top: usize, end: usize) -> bool
+fn plains_same(cells: &[u32], width: usize, a: usize, axis: u32, top: usize, end: usize) -> bool
     requires { ⌜ (a + 2 ≤ width) × (end * width ≤ length (now cells)) ⌝ }
-    ensures { λ r. ⌜ r ≡ alikeIn (λ x y. getD (now (cells .entry)) (y * width + x) 0) (λ x y. plainSide a x) 0 (a + 2) top end ⌝ }
+    ensures { λ r. ⌜ r ≡ alikeIn (λ x y. getD (now (cells .entry)) (y * width + x) 0) (λ x y. plainSide axis a x) 0 (a + 2) top end ⌝ }
 {
     let mut y = top;
     while y < end {
-        if !line_same(cells, y * width, a, VERTICAL, SPACE, a + 2) {
+        if !line_same(cells, y * width, a, axis, SPACE, a + 2) {
             return false;
         }
         y += 1;
@@ -48,17 +48,18 @@ fn beside_same(
     cells: &[u32],
     width: usize,
     a: usize,
+    axis: u32,
     i: u32,
     cy: usize,
     top: usize,
     end: usize,
 ) -> bool
     requires { ⌜ (i < 256) × (length (rule.digits i) < a) × (a + 2 ≤ width) × (top ≤ cy) × (cy < end) × (end * width ≤ length (now cells)) ⌝ }
-    ensures { λ r. ⌜ r ≡ alikeIn (λ x y. getD (now (cells .entry)) (y * width + x) 0) (besideRow a i cy) 0 (a + 2) top end ⌝ }
+    ensures { λ r. ⌜ r ≡ alikeIn (λ x y. getD (now (cells .entry)) (y * width + x) 0) (besideRow axis a i cy) 0 (a + 2) top end ⌝ }
 {
-    if plains_same(cells, width, a, top, cy) {
-        if center_same(cells, cy * width, a, i) {
-            return plains_same(cells, width, a, cy + 1, end);
+    if plains_same(cells, width, a, axis, top, cy) {
+        if center_same(cells, cy * width, a, axis, i) {
+            return plains_same(cells, width, a, axis, cy + 1, end);
         }
     }
     false
@@ -85,10 +86,11 @@ fn row_same(
     nrows: u32,
     i: u32,
     a: usize,
+    axis: u32,
 ) -> bool
     requires { ⌜ (width * height ≤ length (now cells)) × (i < nrows) × (nrows ≤ 32)
         × Beside width height a i (getD (now cy) i 0) (getD (now ys) i 0) (endAt (now ys) nrows height i) ⌝ }
-    ensures { λ r. ⌜ r ≡ alikeIn (λ x y. getD (now (cells .entry)) (y * width + x) 0) (besideRow a i (getD (now (cy .entry)) i 0))
+    ensures { λ r. ⌜ r ≡ alikeIn (λ x y. getD (now (cells .entry)) (y * width + x) 0) (besideRow axis a i (getD (now (cy .entry)) i 0))
         0 (a + 2) (getD (now (ys .entry)) i 0) (endAt (now (ys .entry)) nrows height i) ⌝ }
 {
     let k = text::wide(i);
@@ -96,7 +98,7 @@ fn row_same(
     let top = text::wide(ys[k]);
     let end = text::wide(row_end(ys, nrows, i, height));
     let w = text::wide(width);
-    beside_same(cells, w, a, i, center, top, end)
+    beside_same(cells, w, a, axis, i, center, top, end)
 }
 
 // What is left of the columns is as drawn, with the axis at x = a.
@@ -104,18 +106,20 @@ pub(crate) fn sides_same(
     cells: &[u32],
     width: u32,
     height: u32,
+    g: Glyphs,
     cy: &[u32; 32],
     ys: &[u32; 32],
     nrows: u32,
     a: usize,
 ) -> bool
-    requires { ⌜ (width * height ≤ length (now cells)) × Down (view (planSeen (now cells) width height)) width height nrows a (now cy) (now ys) ⌝ }
-    ensures { λ r. ⌜ r ≡ alikeIn (λ x y. getD (now (cells .entry)) (y * width + x) 0)
-        (markAt length boxes (view (planSeen (now (cells .entry)) width height))) 0 (a + 2) 3 height ⌝ }
+    requires { ⌜ (width * height ≤ length (now cells)) × (nrows ≤ 32)
+        × ((i : ℕ) → i < nrows → Beside width height a i (getD (now cy) i 0) (getD (now ys) i 0) (endAt (now ys) nrows height i)) ⌝ }
+    ensures { λ r. ⌜ ((len : List ℕ → ℕ) (v : View) → Down len v width height nrows a (now (cy .entry)) (now (ys .entry))
+        → r ≡ alikeIn (λ x y. getD (now (cells .entry)) (y * width + x) 0) (markAt len (marksIn g) v) 0 (a + 2) 3 height) ⌝ }
 {
     let mut i = 0;
     while i < nrows {
-        if !row_same(cells, width, height, cy, ys, nrows, i, a) {
+        if !row_same(cells, width, height, cy, ys, nrows, i, a, g.vertical) {
             return false;
         }
         i += 1;

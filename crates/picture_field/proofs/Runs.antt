@@ -10,7 +10,6 @@ use lib.ListN.{getD}
 use borrow.Author.Tests.{lt-ltb, le-ltb, eq-eqb, ne-eqb}
 use Rattle.rules.specs.Base.{pick, every}
 use Rattle.rules.proofs.Candidate.{from}
-use Rattle.rules.specs.Drawing.{boxes}
 use Rattle.marks.specs.Alike.{alike}
 use Rattle.marks.proofs.Alike.{alike-first, alike-split, alike-one, alike-same, alike-if}
 use Rattle.picture_field.specs.declared.shape.Wire.{Wire}
@@ -130,7 +129,7 @@ module _ (e : Edge) (X l R : ℕ) (inner : X < l) (outer : l + 1 < R) where
   unfolding edgeMark pick
   edge-left = rw (le-ltb X X (omega arith), eq-eqb X X refl)
 
-  pub edge-inner : (x : ℕ) → X + 1 ≤ x → x < l → edgeMark e X l R x ≡ boxes .─
+  pub edge-inner : (x : ℕ) → X + 1 ≤ x → x < l → edgeMark e X l R x ≡ e .between
   unfolding edgeMark pick
   edge-inner x p q =
       rw (
@@ -155,7 +154,7 @@ module _ (e : Edge) (X l R : ℕ) (inner : X < l) (outer : l + 1 < R) where
         eq-eqb (l + 1) (l + 1) refl,
       )
 
-  pub edge-tail : (x : ℕ) → l + 2 ≤ x → x < R → edgeMark e X l R x ≡ boxes .─
+  pub edge-tail : (x : ℕ) → l + 2 ≤ x → x < R → edgeMark e X l R x ≡ e .between
   unfolding edgeMark pick
   edge-tail x p q =
       rw (
@@ -195,7 +194,7 @@ module _ (e : Edge) (X l R : ℕ) (inner : X < l) (outer : l + 1 < R) where
       ≡ (eqb (f X) (e .left)
       && (eqb (f l) (e .line)
       && (eqb (f (l + 1)) (e .next)
-      && (eqb (f R) (e .right) && (alike f (λ _. boxes .─) (X + 1) l && alike f (λ _. boxes .─) (l + 2) R)))))
+      && (eqb (f R) (e .right) && (alike f (λ _. e .between) (X + 1) l && alike f (λ _. e .between) (l + 2) R)))))
   edge-row f =
       let g : ℕ → ℕ = edgeMark e X l R in
       rw (
@@ -212,27 +211,27 @@ module _ (e : Edge) (X l R : ℕ) (inner : X < l) (outer : l + 1 < R) where
         edge-line,
         edge-next,
         edge-right,
-        run-of f g (boxes .─) (X + 1) l (λ x p q. edge-inner x p q),
-        run-of f g (boxes .─) (l + 2) R (λ x p q. edge-tail x p q),
+        run-of f g (e .between) (X + 1) l (λ x p q. edge-inner x p q),
+        run-of f g (e .between) (l + 2) R (λ x p q. edge-tail x p q),
       )
-      (ends-first (eqb (f X) (e .left)) (alike f (λ _. boxes .─) (X + 1) l) (eqb (f l) (e .line)) (eqb (f (l + 1)) (e .next))
-      (alike f (λ _. boxes .─) (l + 2) R) (eqb (f R) (e .right)))
+      (ends-first (eqb (f X) (e .left)) (alike f (λ _. e .between) (X + 1) l) (eqb (f l) (e .line)) (eqb (f (l + 1)) (e .next))
+      (alike f (λ _. e .between) (l + 2) R) (eqb (f R) (e .right)))
 
 -- ---- a line of text, between its sides: its letters are whatever they are
-pub text-out-left : (X R own x : ℕ) → x < X → textMark X R own x ≡ 0x20
+pub text-out-left : (side X R own x : ℕ) → x < X → textMark side X R own x ≡ 0x20
 unfolding textMark pick
-text-out-left X R own x h = rw (lt-ltb x X h)
+text-out-left side X R own x h = rw (lt-ltb x X h)
 
-module _ (X R : ℕ) (wide : X + 2 < R) where
-  pub text-left : (own : ℕ) → textMark X R own X ≡ boxes .│
+module _ (side X R : ℕ) (wide : X + 2 < R) where
+  pub text-left : (own : ℕ) → textMark side X R own X ≡ side
   unfolding textMark pick
   text-left own = rw (le-ltb X X (omega arith), eq-eqb X X refl)
 
-  pub text-first : (own : ℕ) → textMark X R own (X + 1) ≡ 0x20
+  pub text-first : (own : ℕ) → textMark side X R own (X + 1) ≡ 0x20
   unfolding textMark pick
   text-first own = rw (le-ltb (X + 1) X (omega arith), ne-eqb (X + 1) X (λ e. absurd (omega arith)), eq-eqb (X + 1) (X + 1) refl)
 
-  pub text-own : (own x : ℕ) → X + 2 ≤ x → x < R - 1 → textMark X R own x ≡ own
+  pub text-own : (own x : ℕ) → X + 2 ≤ x → x < R - 1 → textMark side X R own x ≡ own
   unfolding textMark pick
   text-own own x p q =
       rw (
@@ -242,7 +241,7 @@ module _ (X R : ℕ) (wide : X + 2 < R) where
         lt-ltb (x + 1) R (omega arith),
       )
 
-  pub text-last : (own x : ℕ) → x + 1 ≡ R → textMark X R own x ≡ 0x20
+  pub text-last : (own x : ℕ) → x + 1 ≡ R → textMark side X R own x ≡ 0x20
   unfolding textMark pick
   text-last own x h =
       rw (
@@ -253,7 +252,7 @@ module _ (X R : ℕ) (wide : X + 2 < R) where
         lt-ltb x R (omega arith),
       )
 
-  pub text-right : (own : ℕ) → textMark X R own R ≡ boxes .│
+  pub text-right : (own : ℕ) → textMark side X R own R ≡ side
   unfolding textMark pick
   text-right own =
       rw (
@@ -265,7 +264,7 @@ module _ (X R : ℕ) (wide : X + 2 < R) where
         eq-eqb R R refl,
       )
 
-  pub text-out-right : (own x : ℕ) → R < x → textMark X R own x ≡ 0x20
+  pub text-out-right : (own x : ℕ) → R < x → textMark side X R own x ≡ 0x20
   unfolding textMark pick
   text-out-right own x h =
       rw (
@@ -278,10 +277,10 @@ module _ (X R : ℕ) (wide : X + 2 < R) where
       )
 
   pub text-row : (f : ℕ → ℕ)
-      → alike f (λ x. textMark X R (f x) x) X (R + 1)
-      ≡ (eqb (f X) (boxes .│) && (eqb (f (X + 1)) 0x20 && (eqb (f (R - 1)) 0x20 && eqb (f R) (boxes .│))))
+      → alike f (λ x. textMark side X R (f x) x) X (R + 1)
+      ≡ (eqb (f X) side && (eqb (f (X + 1)) 0x20 && (eqb (f (R - 1)) 0x20 && eqb (f R) side)))
   text-row f =
-      let g : ℕ → ℕ = λ x. textMark X R (f x) x in
+      let g : ℕ → ℕ = λ x. textMark side X R (f x) x in
       rw (
         alike-split f g X (X + 1) (R + 1) (omega arith) (omega arith),
         alike-split f g (X + 1) (X + 2) (R + 1) (omega arith) (omega arith),
@@ -342,23 +341,23 @@ module _ (cells : List ℕ) (n : ℕ) where
         && (eqb (getD cells (n + p .line) 0) (e .line)
         && (eqb (getD cells (n + p .line + 1) 0) (e .next)
         && (eqb (getD cells (n + p .right) 0) (e .right)
-        && (alike (λ k. getD cells k 0) (λ _. boxes .─) (n + p .left + 1) (n + p .line)
-        && alike (λ k. getD cells k 0) (λ _. boxes .─) (n + p .line + 2) (n + p .right))))))
+        && (alike (λ k. getD cells k 0) (λ _. e .between) (n + p .left + 1) (n + p .line)
+        && alike (λ k. getD cells k 0) (λ _. e .between) (n + p .line + 2) (n + p .right))))))
     edge-cells e =
         let one : n + (p .line + 1) ≡ n + p .line + 1 = omega arith in
         let two : n + (p .line + 2) ≡ n + p .line + 2 = omega arith in
         let more : n + (p .left + 1) ≡ n + p .left + 1 = omega arith in
         edge-row e (p .left) (p .line) (p .right) (o .line-in) (o .line-out) (rowIn cells n)
-        ∙ rw (run-cells (boxes .─) (p .left + 1) (p .line), run-cells (boxes .─) (p .line + 2) (p .right), one, two, more)
+        ∙ rw (run-cells (e .between) (p .left + 1) (p .line), run-cells (e .between) (p .line + 2) (p .right), one, two, more)
 
-    pub text-cells : alike (rowIn cells n) (λ x. textMark (p .left) (p .right) (rowIn cells n x) x) (p .left) (p .right + 1)
-        ≡ (eqb (getD cells (n + p .left) 0) (boxes .│)
+    pub text-cells : (side : ℕ) → alike (rowIn cells n) (λ x. textMark side (p .left) (p .right) (rowIn cells n x) x) (p .left) (p .right + 1)
+        ≡ (eqb (getD cells (n + p .left) 0) side
         && (eqb (getD cells (n + p .left + 1) 0) 0x20
-        && (eqb (getD cells (n + p .right - 1) 0) 0x20 && eqb (getD cells (n + p .right) 0) (boxes .│))))
-    text-cells =
+        && (eqb (getD cells (n + p .right - 1) 0) 0x20 && eqb (getD cells (n + p .right) 0) side)))
+    text-cells side =
         let more : n + (p .left + 1) ≡ n + p .left + 1 = omega arith in
         let less : n + (p .right - 1) ≡ n + p .right - 1 = omega arith in
-        text-row (p .left) (p .right) (omega arith) (rowIn cells n) ∙ rw (more, less)
+        text-row side (p .left) (p .right) (omega arith) (rowIn cells n) ∙ rw (more, less)
 
     pub edge-whole : (e : Edge) → let g : ℕ → ℕ = edgeMark e (p .left) (p .line) (p .right) in
         alike (rowIn cells n) g (p .a) (p .b)
@@ -368,12 +367,12 @@ module _ (cells : List ℕ) (n : ℕ) where
         through (rowIn cells n) (edgeMark e (p .left) (p .line) (p .right)) (p .a) (p .left) (p .right) (p .b) (o .starts) (omega arith) (o .ends)
         (edge-out-left e (p .left) (p .line) (p .right)) (edge-out-right e (p .left) (p .line) (p .right) (o .line-in) (o .line-out))
 
-    pub text-whole : let g : ℕ → ℕ = λ x. textMark (p .left) (p .right) (rowIn cells n x) x in
+    pub text-whole : (side : ℕ) → let g : ℕ → ℕ = λ x. textMark side (p .left) (p .right) (rowIn cells n x) x in
         alike (rowIn cells n) g (p .a) (p .b)
         ≡ ((alike (rowIn cells n) (λ _. 0x20) (p .a) (p .left) && alike (rowIn cells n) (λ _. 0x20) (p .right + 1) (p .b))
         && alike (rowIn cells n) g (p .left) (p .right + 1))
-    text-whole =
-        through (rowIn cells n) (λ x. textMark (p .left) (p .right) (rowIn cells n x) x) (p .a) (p .left) (p .right) (p .b)
+    text-whole side =
+        through (rowIn cells n) (λ x. textMark side (p .left) (p .right) (rowIn cells n x) x) (p .a) (p .left) (p .right) (p .b)
         (o .starts) (omega arith) (o .ends)
-        (λ x h. text-out-left (p .left) (p .right) (rowIn cells n x) x h)
-        (λ x h. text-out-right (p .left) (p .right) (omega arith) (rowIn cells n x) x h)
+        (λ x h. text-out-left side (p .left) (p .right) (rowIn cells n x) x h)
+        (λ x h. text-out-right side (p .left) (p .right) (omega arith) (rowIn cells n x) x h)

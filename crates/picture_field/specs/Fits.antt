@@ -4,7 +4,7 @@ use mathlib.Core.Bool.{true}
 use mathlib.Core.List.{List}
 use Prim.Native.Nat.{ℕ, _+_, _*_, _≤_, _<_}
 use lib.ListN.{getD}
-use Rattle.rules.specs.Drawing.{boxes}
+use Rattle.rules.specs.Drawing.{Marks}
 use Rattle.marks.specs.Spot as Rules
 use Rattle.picture_field.specs.declared.spot.Spot.{Spot}
 
@@ -27,8 +27,8 @@ abbrev pub markIn : List ℕ → ℕ → ℕ → ℕ → ℕ
 markIn cells width x y = getD cells (y * width + x) 0
 
 -- the mark that a spot has there, the letters of a title being those of the cells
-abbrev pub spotIn : List ℕ → ℕ → Spot → ℕ → ℕ → ℕ
-spotIn cells width s x y = Rules.spotMark boxes (plain s) (markIn cells width x y) x y
+abbrev pub spotIn : Marks → List ℕ → ℕ → Spot → ℕ → ℕ → ℕ
+spotIn marks cells width s x y = Rules.spotMark marks (plain s) (markIn cells width x y) x y
 
 -- a box of one line at least in the rows from top on, before the bend and before the end
 pub record Stands (s : Spot) (top end : ℕ) : Type 0 where

@@ -3,7 +3,7 @@ ghost use mathlib.Core.Path.{_≡_};
 ghost use mathlib.Core.Bool.{true};
 ghost use Prim.Native.Nat.{_+_, _*_, _≤_, _<_};
 ghost use lib.ListN.{length, getD};
-ghost use Rattle.rules.specs.Drawing.{boxes};
+ghost use Rattle.rules.specs.Look.{marksIn};
 ghost use Rattle.marks.specs.Alike.{alikeIn};
 ghost use Rattle.marks.specs.Spot.{spotMark};
 ghost use Rattle.picture_field.specs.Fits.{Stands, Fits, plain, markIn, spotIn};
@@ -18,6 +18,7 @@ use crate::shape::straight_wire;
 use crate::shape::top_edge;
 use crate::spot::Spot;
 use crate::wire::wires_same;
+use rules::Glyphs;
 
 // The places of its rows.
 fn span_of(s: Spot, a: u32, b: u32) -> Span
@@ -33,19 +34,19 @@ fn span_of(s: Spot, a: u32, b: u32) -> Span
 }
 
 // The rows from the band's top to the bottom border of the box that stands there.
-fn box_same(cells: &[u32], width: u32, s: Spot, a: u32, b: u32, top: u32) -> bool
+fn box_same(cells: &[u32], width: u32, g: Glyphs, s: Spot, a: u32, b: u32, top: u32) -> bool
     requires { ⌜ (s .cell ≡ true) × Ordered (spanOf s a b) × Stands s top (s .bottom + 1) ⌝ }
     requires { ⌜ (b ≤ width) × ((s .bottom + 1) * width ≤ length (now cells)) ⌝ }
-    ensures { λ r. ⌜ r ≡ alikeIn (markIn (now (cells .entry)) width) (spotIn (now (cells .entry)) width s) a b top (s .bottom + 1) ⌝ }
+    ensures { λ r. ⌜ r ≡ alikeIn (markIn (now (cells .entry)) width) (spotIn (marksIn g) (now (cells .entry)) width s) a b top (s .bottom + 1) ⌝ }
 {
     let p = span_of(s, a, b);
     let w = width as usize;
     let first = s.top as usize;
     let last = s.bottom as usize;
-    if wires_same(cells, w, p, straight_wire(s.up), top as usize, first) {
-        if edge_same(cells, first * w, p, top_edge(s.up)) {
-            if texts_same(cells, w, p, first + 1, last) {
-                return edge_same(cells, last * w, p, bottom_edge(s.child, s.on));
+    if wires_same(cells, w, p, straight_wire(g, s.up), top as usize, first) {
+        if edge_same(cells, first * w, p, top_edge(g, s.up)) {
+            if texts_same(cells, w, p, g.vertical, first + 1, last) {
+                return edge_same(cells, last * w, p, bottom_edge(g, s.child, s.on));
             }
         }
     }
@@ -53,28 +54,37 @@ fn box_same(cells: &[u32], width: u32, s: Spot, a: u32, b: u32, top: u32) -> boo
 }
 
 // The rows from `from` on, with no box or under it, before `end`.
-fn gap_same(cells: &[u32], width: u32, s: Spot, a: u32, b: u32, from: u32, end: u32) -> bool
+fn gap_same(
+    cells: &[u32],
+    width: u32,
+    g: Glyphs,
+    s: Spot,
+    a: u32,
+    b: u32,
+    from: u32,
+    end: u32,
+) -> bool
     requires { ⌜ (s .cell ≡ true → (s .top < s .bottom) × (s .bottom < from)) × Ordered (spanOf s a b) × (from ≤ s .bend) ⌝ }
     requires { ⌜ (b ≤ width) × (end * width ≤ length (now cells)) ⌝ }
-    ensures { λ r. ⌜ r ≡ alikeIn (markIn (now (cells .entry)) width) (spotIn (now (cells .entry)) width s) a b from end ⌝ }
+    ensures { λ r. ⌜ r ≡ alikeIn (markIn (now (cells .entry)) width) (spotIn (marksIn g) (now (cells .entry)) width s) a b from end ⌝ }
 {
     let p = span_of(s, a, b);
     let w = width as usize;
     let y = from as usize;
     let bend = s.bend as usize;
     let to = end as usize;
-    let foot = foot_wire(s.cell, s.child, s.on);
+    let foot = foot_wire(g, s.cell, s.child, s.on);
     if bend < to {
         if wires_same(cells, w, p, foot, y, bend) {
             if wires_same(
                 cells,
                 w,
                 p,
-                bend_wire(s.cell, s.child, s.on),
+                bend_wire(g, s.cell, s.child, s.on),
                 bend,
                 bend + 1,
             ) {
-                return wires_same(cells, w, p, straight_wire(s.child), bend + 1, to);
+                return wires_same(cells, w, p, straight_wire(g, s.child), bend + 1, to);
             }
         }
         return false;
@@ -83,16 +93,25 @@ fn gap_same(cells: &[u32], width: u32, s: Spot, a: u32, b: u32, from: u32, end: 
 }
 
 // The column from x = a up to b shows `s` in the rows from y = top on, before `end`.
-pub fn block_same(cells: &[u32], width: u32, s: Spot, a: u32, b: u32, top: u32, end: u32) -> bool
+pub fn block_same(
+    cells: &[u32],
+    width: u32,
+    g: Glyphs,
+    s: Spot,
+    a: u32,
+    b: u32,
+    top: u32,
+    end: u32,
+) -> bool
     requires { ⌜ (b ≤ width) × (end * width ≤ length (now cells)) × Fits s a b top end ⌝ }
     ensures { λ r. ⌜ r ≡ alikeIn (λ x y. getD (now (cells .entry)) (y * width + x) 0)
-        (λ x y. spotMark boxes (plain s) (getD (now (cells .entry)) (y * width + x) 0) x y) a b top end ⌝ }
+        (λ x y. spotMark (marksIn g) (plain s) (getD (now (cells .entry)) (y * width + x) 0) x y) a b top end ⌝ }
 {
     if s.cell {
-        if box_same(cells, width, s, a, b, top) {
-            return gap_same(cells, width, s, a, b, s.bottom + 1, end);
+        if box_same(cells, width, g, s, a, b, top) {
+            return gap_same(cells, width, g, s, a, b, s.bottom + 1, end);
         }
         return false;
     }
-    gap_same(cells, width, s, a, b, top, end)
+    gap_same(cells, width, g, s, a, b, top, end)
 }

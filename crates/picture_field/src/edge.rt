@@ -9,10 +9,8 @@ ghost use Rattle.picture_field.specs.Rows.{edgeMark, textMark};
 ghost use Rattle.picture_field.specs.Span.{Ordered, rowIn};
 use crate::run::run_same;
 use crate::shape::Edge;
-use crate::shape::HORIZONTAL;
 use crate::shape::SPACE;
 use crate::shape::Span;
-use crate::shape::VERTICAL;
 
 // Left and right of the box are spaces.
 fn beside_same(cells: &[u32], base: usize, p: Span) -> bool
@@ -46,8 +44,8 @@ fn border_same(cells: &[u32], base: usize, p: Span, e: Edge) -> bool
     if cells[right] != e.right {
         return false;
     }
-    if run_same(cells, left + 1, line, HORIZONTAL) {
-        return run_same(cells, line + 2, right, HORIZONTAL);
+    if run_same(cells, left + 1, line, e.between) {
+        return run_same(cells, line + 2, right, e.between);
     }
     false
 }
@@ -63,15 +61,15 @@ pub fn edge_same(cells: &[u32], base: usize, p: Span, e: Edge) -> bool
     false
 }
 
-// A line of text between its sides, whatever its letters are.
-fn sides_same(cells: &[u32], base: usize, p: Span) -> bool
+// A line of text between its sides, which hold `side`, whatever its letters are.
+fn sides_same(cells: &[u32], base: usize, p: Span, side: u32) -> bool
     requires { ⌜ Ordered p × (base + p .b ≤ length (now cells)) ⌝ }
     ensures { λ r. ⌜ r ≡ alike (rowIn (now (cells .entry)) base)
-        (λ x. textMark (p .left) (p .right) (rowIn (now (cells .entry)) base x) x) (p .left) (p .right + 1) ⌝ }
+        (λ x. textMark side (p .left) (p .right) (rowIn (now (cells .entry)) base x) x) (p .left) (p .right + 1) ⌝ }
 {
     let left = base + p.left;
     let right = base + p.right;
-    if cells[left] != VERTICAL {
+    if cells[left] != side {
         return false;
     }
     if cells[left + 1] != SPACE {
@@ -80,30 +78,30 @@ fn sides_same(cells: &[u32], base: usize, p: Span) -> bool
     if cells[right - 1] != SPACE {
         return false;
     }
-    cells[right] == VERTICAL
+    cells[right] == side
 }
 
 // The row of a line of text, which begins at `base`.
-fn text_same(cells: &[u32], base: usize, p: Span) -> bool
+fn text_same(cells: &[u32], base: usize, p: Span, side: u32) -> bool
     requires { ⌜ Ordered p × (base + p .b ≤ length (now cells)) ⌝ }
     ensures { λ r. ⌜ r ≡ alike (rowIn (now (cells .entry)) base)
-        (λ x. textMark (p .left) (p .right) (rowIn (now (cells .entry)) base x) x) (p .a) (p .b) ⌝ }
+        (λ x. textMark side (p .left) (p .right) (rowIn (now (cells .entry)) base x) x) (p .a) (p .b) ⌝ }
 {
     if beside_same(cells, base, p) {
-        return sides_same(cells, base, p);
+        return sides_same(cells, base, p, side);
     }
     false
 }
 
 // The lines of text from y = from on, before `to`.
-pub fn texts_same(cells: &[u32], width: usize, p: Span, from: usize, to: usize) -> bool
+pub fn texts_same(cells: &[u32], width: usize, p: Span, side: u32, from: usize, to: usize) -> bool
     requires { ⌜ Ordered p × (p .b ≤ width) × (to * width ≤ length (now cells)) ⌝ }
     ensures { λ r. ⌜ r ≡ alikeIn (markIn (now (cells .entry)) width)
-        (λ x y. textMark (p .left) (p .right) (markIn (now (cells .entry)) width x y) x) (p .a) (p .b) from to ⌝ }
+        (λ x y. textMark side (p .left) (p .right) (markIn (now (cells .entry)) width x y) x) (p .a) (p .b) from to ⌝ }
 {
     let mut y = from;
     while y < to {
-        if text_same(cells, y * width, p) {
+        if text_same(cells, y * width, p, side) {
             y += 1;
         } else {
             return false;

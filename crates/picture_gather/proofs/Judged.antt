@@ -11,7 +11,7 @@ use Rattle.rules.specs.Base.{pick, greatest, halfUp}
 use Rattle.rules.specs.Levels.{Cell}
 use Rattle.rules.specs.Plan.{nodeAt}
 use Rattle.rules.specs.Measures.{lineCount, longest}
-use Rattle.rules.specs.Drawing.{boxes}
+use Rattle.rules.specs.Drawing.{Marks}
 use Rattle.rules.proofs.Bounds.{lines-of}
 use Rattle.rules.proofs.Candidate.{joined, marked, outside, bandOf}
 use Rattle.picture_sight.specs.Seen.{seen, boxLines, leftSide, rightSide}
@@ -36,6 +36,8 @@ box-half g x cy y = go (eqb (cy - y - 1) 0 || marked g x (y + 2 * (cy - y - 1) +
     go false = omega arith
 
 module _
+    (len : List ℕ → ℕ)
+    (marks : Marks)
     (cells : List ℕ)
     (w h : ℕ)
     (open-marks : (x y : ℕ) → seen cells w h x y ≡ 10 → ⊥)
@@ -43,36 +45,36 @@ module _
     (column : j < outside (seen cells w h) w h .nc)
     (row : i < outside (seen cells w h) w h .nr)
     {lines top at t : ℕ}
-    (l : Labelled (seen cells w h) w (bandOf boxes (seen cells w h) w (outside (seen cells w h) w h) i) (outside (seen cells w h) w h .cy i) (outside (seen cells w h) w h .cx j) lines top at t)
+    (l : Labelled marks (seen cells w h) w (bandOf marks (seen cells w h) w (outside (seen cells w h) w h) i) (outside (seen cells w h) w h .cy i) (outside (seen cells w h) w h .cx j) lines top at t)
     (some : 1 ≤ lines) where
   -- the cell
   abbrev pub seenCell : Cell
   seenCell = record { row = i; column = j; title = joined (linesFrom (seen cells w h) at (top + 1) t lines) }
 
-  pub seen-here : cellHere cells w h i j ≡ seenCell ∷ []
+  pub seen-here : cellHere marks cells w h i j ≡ seenCell ∷ []
   unfolding cellHere
-  seen-here = cell-some _ w _ _ _ l i j some
+  seen-here = cell-some marks _ w _ _ _ l i j some
 
   -- its numbers
   top-here :
-      (top ≡ topOf cells w h seenCell) × (at ≡ leftSide (seen cells w h) (middleOf cells w h seenCell) top + 2)
-      × (t ≡ rightSide (seen cells w h) w (middleOf cells w h seenCell) top - leftSide (seen cells w h) (middleOf cells w h seenCell) top - 3)
+      (top ≡ topOf marks cells w h seenCell) × (at ≡ leftSide marks (seen cells w h) (middleOf cells w h seenCell) top + 2)
+      × (t ≡ rightSide marks (seen cells w h) w (middleOf cells w h seenCell) top - leftSide marks (seen cells w h) (middleOf cells w h seenCell) top - 3)
       × (lines ≡ boxLines (seen cells w h) (middleOf cells w h seenCell - 2) (outside (seen cells w h) w h .cy i) top)
-  top-here = l .here (label-here _ w _ _ _ l some)
+  top-here = l .here (label-here marks _ w _ _ _ l some)
 
   pub lines-here : lineCount seenCell ≡ lines
   lines-here = label-lines (seen cells w h) open-marks at (top + 1) t lines i j some
 
-  pub longest-here : longest length seenCell ≡ greatest length (linesFrom (seen cells w h) at (top + 1) t lines)
-  longest-here = label-longest (seen cells w h) open-marks at (top + 1) t lines i j some
+  pub longest-here : longest len seenCell ≡ greatest len (linesFrom (seen cells w h) at (top + 1) t lines)
+  longest-here = label-longest (seen cells w h) open-marks at (top + 1) t lines i j some len
 
-  pub fits : {size : ℕ} → Titled (seen cells w h) (middleOf cells w h seenCell) at (top + 1) t lines size → middleOf cells w h seenCell ≤ 1048832 → Fitting cells w h seenCell
+  pub fits : {size : ℕ} → Titled len (seen cells w h) (middleOf cells w h seenCell) at (top + 1) t lines size → middleOf cells w h seenCell ≤ 1048832 → Fitting len cells w h seenCell
   fits d b =
       let n = top-here in
-      let most : longest length seenCell ≡ t = longest-here ∙ d .filled in
+      let most : longest len seenCell ≡ t = longest-here ∙ d .filled in
       let half : lines / 2 ≡ outside (seen cells w h) w h .cy i - top - 1 =
       ap (λ k. k / 2) (n .3) ∙ box-half (seen cells w h) (middleOf cells w h seenCell - 2) (outside (seen cells w h) w h .cy i) top in
-      let low = label-below _ w _ _ _ l some .0 in
+      let low = label-below marks _ w _ _ _ l some .0 in
       let left : middleOf cells w h seenCell - halfUp t ≡ at = omega (arith, d .centred) in
       let first : outside (seen cells w h) w h .cy i - lines / 2 ≡ top + 1 = omega (arith, half, low) in
       record {
@@ -84,29 +86,29 @@ module _
         below = rw lines-here (omega (arith, half, low));
       }
 
-  rest : (r : List Cell) × (cellsSeen cells w h ≡ cellsBefore cells w h j i ++ ((seenCell ∷ []) ++ r))
-  rest = rw seen-here at (cells-parts cells w h j i column row)
+  rest : (r : List Cell) × (cellsSeen marks cells w h ≡ cellsBefore marks cells w h j i ++ ((seenCell ∷ []) ++ r))
+  rest = rw seen-here at (cells-parts marks cells w h j i column row)
 
   -- the cell comes next among all cells
   abbrev place : ℕ
-  place = length (cellsBefore cells w h j i)
+  place = length (cellsBefore marks cells w h j i)
 
-  cell-next : cellSeen cells w h place ≡ seenCell
-  cell-next = rw (rest .1) (getD-append-seam (cellsBefore cells w h j i) seenCell (rest .0) (record { row = 0; column = 0; title = [] }))
+  cell-next : cellSeen marks cells w h place ≡ seenCell
+  cell-next = rw (rest .1) (getD-append-seam (cellsBefore marks cells w h j i) seenCell (rest .0) (record { row = 0; column = 0; title = [] }))
 
-  next-below : place < length (planSeen cells w h)
+  next-below : place < length (planSeen marks cells w h)
   next-below =
-      omega (arith, ap length (plan-cells cells w h), length-nodes (cellsSeen cells w h), ap length (rest .1), length-append (cellsBefore cells w h j i) (seenCell ∷ rest .0))
+      omega (arith, ap length (plan-cells marks cells w h), length-nodes (cellsSeen marks cells w h), ap length (rest .1), length-append (cellsBefore marks cells w h j i) (seenCell ∷ rest .0))
 
-  title-next : nodeAt (planSeen cells w h) place .title ≡ seenCell .title
-  title-next = title-seen cells w h place ∙ ap (λ (b : Cell). b .title) cell-next
+  title-next : nodeAt (planSeen marks cells w h) place .title ≡ seenCell .title
+  title-next = title-seen marks cells w h place ∙ ap (λ (b : Cell). b .title) cell-next
 
-  pub refused : Reason (seen cells w h) (middleOf cells w h seenCell) at (top + 1) t lines → Misfit cells w h
+  pub refused : Reason len (seen cells w h) (middleOf cells w h seenCell) at (top + 1) t lines → Misfit len marks cells w h
   refused (no.lined n) = long place next-below (rw title-next (omega (arith, lines-of (seenCell .title) .1, lines-here)))
   refused (no.beside n) = beside place next-below (rw (cell-next, ← top-here .0, ← top-here .1, ← top-here .2) n)
   refused (no.long n) = long place next-below (rw title-next n)
   refused (no.loose n) = loose place next-below (rw (cell-next, ← top-here .0, ← top-here .2) (λ e. n (sym (e ∙ longest-here))))
   refused (no.untitled n) = untitled place next-below (rw title-next n)
 
-  pub too-many : 256 ≤ place → Misfit cells w h
+  pub too-many : 256 ≤ place → Misfit len marks cells w h
   too-many b = many (omega (arith, next-below))

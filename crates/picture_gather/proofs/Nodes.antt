@@ -9,6 +9,7 @@ use lib.ListN.{length, set, length-map, List·getD-append, List·getD-map}
 use lib.Seq.{getD-append-seam}
 use Rattle.rules.specs.Plan.{Node, nodeAt, depthAt}
 use Rattle.rules.specs.Levels.{Cell}
+use Rattle.rules.specs.Drawing.{Marks}
 use Rattle.rules.specs.Measures.{lineCount, longest}
 use Rattle.rules.proofs.Candidate.{planFound}
 use Rattle.levels.specs.Filled.{filled}
@@ -20,9 +21,9 @@ use Rattle.picture_sight.specs.Plan.{planSeen, cellsSeen}
 use Rattle.picture_gather.specs.Gathered.{cellSeen}
 use Rattle.picture_gather.specs.Partly.{cellIn, nodesOf}
 
-pub plan-cells : (cells : List ℕ) (w h : ℕ) → planSeen cells w h ≡ nodesOf (cellsSeen cells w h)
+pub plan-cells : (marks : Marks) (cells : List ℕ) (w h : ℕ) → planSeen marks cells w h ≡ nodesOf (cellsSeen marks cells w h)
 unfolding planSeen planFound cellsSeen
-plan-cells cells w h = refl
+plan-cells marks cells w h = refl
 
 pub length-nodes : (cs : List Cell) → length (nodesOf cs) ≡ length cs
 length-nodes cs = length-map cs (λ (c : Cell). record { depth = c .row; title = c .title })
@@ -31,24 +32,24 @@ pub node-cell : (cs : List Cell) (k : ℕ) → nodeAt (nodesOf cs) k ≡ record 
 unfolding nodeAt
 node-cell cs k = List·getD-map (λ (c : Cell). record { depth = c .row; title = c .title }) cs k (record { row = 0; column = 0; title = [] })
 
-module _ (cells : List ℕ) (w h k : ℕ) where
-  node-seen : nodeAt (planSeen cells w h) k ≡ record { depth = cellSeen cells w h k .row; title = cellSeen cells w h k .title }
-  node-seen = rw (plan-cells cells w h) (node-cell (cellsSeen cells w h) k)
+module _ (marks : Marks) (cells : List ℕ) (w h k : ℕ) where
+  node-seen : nodeAt (planSeen marks cells w h) k ≡ record { depth = cellSeen marks cells w h k .row; title = cellSeen marks cells w h k .title }
+  node-seen = rw (plan-cells marks cells w h) (node-cell (cellsSeen marks cells w h) k)
 
-  pub title-seen : nodeAt (planSeen cells w h) k .title ≡ cellSeen cells w h k .title
+  pub title-seen : nodeAt (planSeen marks cells w h) k .title ≡ cellSeen marks cells w h k .title
   title-seen = ap (λ (m : Node). m .title) node-seen
 
-  pub depth-seen : depthAt (planSeen cells w h) k ≡ cellSeen cells w h k .row
+  pub depth-seen : depthAt (planSeen marks cells w h) k ≡ cellSeen marks cells w h k .row
   unfolding depthAt
   depth-seen = ap (λ (m : Node). m .depth) node-seen
 
   -- of a node with a title
-  pub lines-seen : 1 ≤ length (cellSeen cells w h k .title) → linesAt (planSeen cells w h) k ≡ lineCount (cellSeen cells w h k)
-  lines-seen s = lines-cell (planSeen cells w h) k ∙ rw title-seen (sym (cell-some (cellSeen cells w h k .title) (λ e. absurd (omega arith)) .0))
+  pub lines-seen : 1 ≤ length (cellSeen marks cells w h k .title) → linesAt (planSeen marks cells w h) k ≡ lineCount (cellSeen marks cells w h k)
+  lines-seen s = lines-cell (planSeen marks cells w h) k ∙ rw title-seen (sym (cell-some length (cellSeen marks cells w h k .title) (λ e. absurd (omega arith)) .0))
 
-  pub longest-seen : 1 ≤ length (cellSeen cells w h k .title) → longestAt (planSeen cells w h) k ≡ longest length (cellSeen cells w h k)
+  pub longest-seen : (len : List ℕ → ℕ) → 1 ≤ length (cellSeen marks cells w h k .title) → longestAt len (planSeen marks cells w h) k ≡ longest len (cellSeen marks cells w h k)
   unfolding longest
-  longest-seen s = longest-cell (planSeen cells w h) k ∙ rw title-seen (sym (cell-some (cellSeen cells w h k .title) (λ e. absurd (omega arith)) .1))
+  longest-seen len s = longest-cell len (planSeen marks cells w h) k ∙ rw title-seen (sym (cell-some len (cellSeen marks cells w h k .title) (λ e. absurd (omega arith)) .1))
 
 pub nodes-snoc : (cs : List Cell) (c : Cell) → nodesOf (cs ++ (c ∷ [])) ≡ nodesOf cs ++ (record { depth = c .row; title = c .title } ∷ [])
 nodes-snoc [] c = refl

@@ -8,6 +8,7 @@ use native.Mathlib.Numerals.{add-one}
 use native.Mathlib.Omega.{arith}
 use Rattle.rules.specs.Base.{concat}
 use Rattle.rules.specs.Levels.{Cell}
+use Rattle.rules.specs.Drawing.{Marks}
 use Rattle.rules.proofs.Candidate.{from, found, outside}
 use Rattle.marks.proofs.Order.{concat-snoc}
 use Rattle.picture_sight.specs.Seen.{seen}
@@ -28,34 +29,34 @@ parts {B} f k n h =
     let s : suc k + (n - suc k) ≡ n = omega arith in
     (r, rw s at (e ∙ ap (λ (l : List B). l ++ r) (concat-snoc f k) ∙ append-assoc (concat f (from 0 k)) (f k) r))
 
-module _ (cells : List ℕ) (w h : ℕ) where
-  pub before-none : cellsBefore cells w h 0 0 ≡ []
+module _ (marks : Marks) (cells : List ℕ) (w h : ℕ) where
+  pub before-none : cellsBefore marks cells w h 0 0 ≡ []
   unfolding cellsBefore columnsSeen concat from
   before-none = refl
 
-  pub before-more : (j i : ℕ) → cellsBefore cells w h j (i + 1) ≡ cellsBefore cells w h j i ++ cellHere cells w h i j
+  pub before-more : (j i : ℕ) → cellsBefore marks cells w h j (i + 1) ≡ cellsBefore marks cells w h j i ++ cellHere marks cells w h i j
   unfolding cellsBefore
   before-more j i =
-      rw (add-one i) (ap (λ (l : List Cell). columnsSeen cells w h j ++ l) (concat-snoc (λ k. cellHere cells w h k j) i)
-      ∙ sym (append-assoc (columnsSeen cells w h j) (concat (λ k. cellHere cells w h k j) (from 0 i)) (cellHere cells w h i j)))
+      rw (add-one i) (ap (λ (l : List Cell). columnsSeen marks cells w h j ++ l) (concat-snoc (λ k. cellHere marks cells w h k j) i)
+      ∙ sym (append-assoc (columnsSeen marks cells w h j) (concat (λ k. cellHere marks cells w h k j) (from 0 i)) (cellHere marks cells w h i j)))
 
   -- a column is passed
-  pub before-next : (j n : ℕ) → n ≡ outside (seen cells w h) w h .nr → cellsBefore cells w h j n ≡ cellsBefore cells w h (j + 1) 0
+  pub before-next : (j n : ℕ) → n ≡ outside (seen cells w h) w h .nr → cellsBefore marks cells w h j n ≡ cellsBefore marks cells w h (j + 1) 0
   unfolding cellsBefore columnsSeen from concat
   before-next j n e =
-      rw (e, add-one j) (sym (append-nil (columnsSeen cells w h (suc j)) ∙ concat-snoc (λ k. concat (λ i. cellHere cells w h i k) (from 0 (outside (seen cells w h) w h .nr))) j))
+      rw (e, add-one j) (sym (append-nil (columnsSeen marks cells w h (suc j)) ∙ concat-snoc (λ k. concat (λ i. cellHere marks cells w h i k) (from 0 (outside (seen cells w h) w h .nr))) j))
 
   -- all are passed
-  pub before-all : (n : ℕ) → n ≡ outside (seen cells w h) w h .nc → cellsBefore cells w h n 0 ≡ cellsSeen cells w h
+  pub before-all : (n : ℕ) → n ≡ outside (seen cells w h) w h .nc → cellsBefore marks cells w h n 0 ≡ cellsSeen marks cells w h
   unfolding cellsBefore columnsSeen cellsSeen found cellHere from concat
-  before-all n e = rw e (append-nil (columnsSeen cells w h (outside (seen cells w h) w h .nc)))
+  before-all n e = rw e (append-nil (columnsSeen marks cells w h (outside (seen cells w h) w h .nc)))
 
   -- what is left of them
   pub cells-parts : (j i : ℕ) → j < outside (seen cells w h) w h .nc → i < outside (seen cells w h) w h .nr
-      → (r : List Cell) × (cellsSeen cells w h ≡ cellsBefore cells w h j i ++ (cellHere cells w h i j ++ r))
+      → (r : List Cell) × (cellsSeen marks cells w h ≡ cellsBefore marks cells w h j i ++ (cellHere marks cells w h i j ++ r))
   unfolding cellsBefore columnsSeen cellsSeen found cellHere
   cells-parts j i a b =
-      let column : ℕ → List Cell = λ k. concat (λ i. cellHere cells w h i k) (from 0 (outside (seen cells w h) w h .nr)) in
-      let (s, e) = parts (λ k. cellHere cells w h k j) i (outside (seen cells w h) w h .nr) b in
+      let column : ℕ → List Cell = λ k. concat (λ i. cellHere marks cells w h i k) (from 0 (outside (seen cells w h) w h .nr)) in
+      let (s, e) = parts (λ k. cellHere marks cells w h k j) i (outside (seen cells w h) w h .nr) b in
       let (r, d) = parts column j (outside (seen cells w h) w h .nc) a in
       (s ++ r, d ∙ rw e (simp append-assoc))

@@ -8,7 +8,7 @@ use Rattle.rules.specs.Base.{concat, halfUp}
 use Rattle.rules.specs.Plan.{Node}
 use Rattle.rules.specs.Levels.{Cell}
 use Rattle.rules.specs.Measures.{lineCount, longest}
-use Rattle.rules.specs.Drawing.{boxes}
+use Rattle.rules.specs.Drawing.{Marks}
 use Rattle.rules.specs.Reader.{tableOf, titlesOf}
 use Rattle.rules.proofs.Candidate.{from, joined, lineAt, foundAt, outside, bandOf}
 use Rattle.levels.specs.Filled.{filled}
@@ -23,12 +23,12 @@ cellIn cs k = getD cs k (record { row = 0; column = 0; title = [] })
 abbrev pub nodesOf : List Cell → List Node
 nodesOf cs = map (λ (c : Cell). record { depth = c .row; title = c .title }) cs
 
-module _ (cells : List ℕ) (w h : ℕ) where
+module _ (marks : Marks) (cells : List ℕ) (w h : ℕ) where
   -- the cell of row i and column j, if one is seen there
   unfoldable pub cellHere : ℕ → ℕ → List Cell
   cellHere i j =
       let o = outside (seen cells w h) w h in
-      foundAt boxes (seen cells w h) w (bandOf boxes (seen cells w h) w o i) (o .cy i) (o .cx j) i j
+      foundAt marks (seen cells w h) w (bandOf marks (seen cells w h) w o i) (o .cy i) (o .cx j) i j
 
   -- the cells of the first j columns
   unfoldable pub columnsSeen : ℕ → List Cell
@@ -38,6 +38,7 @@ module _ (cells : List ℕ) (w h : ℕ) where
   unfoldable pub cellsBefore : ℕ → ℕ → List Cell
   cellsBefore j i = columnsSeen j ++ concat (λ k. cellHere k j) (from 0 i)
 
+module _ (len : List ℕ → ℕ) (cells : List ℕ) (w h : ℕ) where
   -- a cell whose title has 1 to 1,024 bytes, and stands where a drawing with the cell's middle has it
   pub record Fitting (c : Cell) : Type 0 where
     pub some : 1 ≤ length (c .title)
@@ -45,9 +46,9 @@ module _ (cells : List ℕ) (w h : ℕ) where
     pub lettered : c .title
         ≡ joined
         (map
-        (λ r. lineAt (seen cells w h) (middleOf cells w h c - halfUp (longest length c)) (outside (seen cells w h) w h .cy (c .row) - lineCount c / 2 + r) (longest length c))
+        (λ r. lineAt (seen cells w h) (middleOf cells w h c - halfUp (longest len c)) (outside (seen cells w h) w h .cy (c .row) - lineCount c / 2 + r) (longest len c))
         (from 0 (lineCount c)))
-    pub beside : halfUp (longest length c) + 2 ≤ middleOf cells w h c
+    pub beside : halfUp (longest len c) + 2 ≤ middleOf cells w h c
     pub within : middleOf cells w h c ≤ 1048832
     pub below : lineCount c / 2 + 1 ≤ outside (seen cells w h) w h .cy (c .row)
 
@@ -61,9 +62,10 @@ module _ (cells : List ℕ) (w h : ℕ) where
     pub table-long : length table ≡ 768
     pub middles-are : middle ≡ filled (λ k. middleOf cells w h (cellIn cs k)) 0 nodes (replicate 256 0)
     pub lines-are : lines ≡ filled (λ k. lineCount (cellIn cs k)) 0 nodes (replicate 256 0)
-    pub longest-are : most ≡ filled (λ k. longest length (cellIn cs k)) 0 nodes (replicate 256 0)
+    pub longest-are : most ≡ filled (λ k. longest len (cellIn cs k)) 0 nodes (replicate 256 0)
     pub fitting : (k : ℕ) → k < nodes → Fitting (cellIn cs k)
 
+module _ (len : List ℕ → ℕ) (marks : Marks) (cells : List ℕ) (w h : ℕ) where
   -- what a step answers: the cells cs are gathered, or nothing may be
   abbrev pub Answered : List Cell → Bool → ℕ → ℕ → List ℕ → List ℕ → List ℕ → List ℕ → Type 0
-  Answered cs bad nodes bytes table middle lines most = (bad ≡ false → Partly cs nodes bytes table middle lines most) × (bad ≡ true → Misfit cells w h)
+  Answered cs bad nodes bytes table middle lines most = (bad ≡ false → Partly len cells w h cs nodes bytes table middle lines most) × (bad ≡ true → Misfit len marks cells w h)

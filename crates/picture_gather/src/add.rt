@@ -1,14 +1,19 @@
 // One cell of the picture is added to the nodes.
+use picture_sight::Block;
 use picture_sight::Label;
+use rules::Glyphs;
+use rules::Measure;
 ghost use mathlib.Core.Path.{_≡_};
 ghost use mathlib.Core.Bool.{true, false};
-ghost use Prim.Native.Nat.{_≤_, _<_, _+_, _*_};
-ghost use lib.ListN.{length, set};
+ghost use Prim.Native.Nat.{ℕ, _≤_, _<_, _+_, _*_};
+ghost use lib.ListN.{length, getD, set};
+ghost use Rattle.rules.specs.Look.{lenOf, marksIn};
 ghost use Rattle.rules.proofs.Candidate.{outside};
+ghost use Rattle.marks.proofs.Text.{Held};
 ghost use Rattle.picture_sight.specs.Seen.{seen};
 ghost use Rattle.picture_gather.specs.Known.{Known};
 ghost use Rattle.picture_gather.specs.Partly.{cellsBefore, Partly, Answered};
-ghost use Rattle.picture_gather.specs.Title.{titleSize};
+ghost use Rattle.picture_gather.specs.Title.{titleSize, longestBy};
 
 // The nodes so far and their titles' bytes; bad: no plan draws this.
 pub struct Collected {
@@ -17,10 +22,21 @@ pub struct Collected {
     pub bad: bool,
 }
 
+// The longest line of a label, by the measure.
+fn longest_of(measure: Measure, b: Block) -> usize
+    ensures { λ r. ⌜ r ≡ longestBy measure (b .longest) (b .points) ⌝ }
+{
+    match measure {
+        Measure::Bytes => b.longest,
+        Measure::Points => b.points,
+    }
+}
+
 // The bytes of a box's title; 0 where no plan has such a box in a column with the centre cx.
-fn title_size(cells: &[u32], width: u32, height: u32, l: Label, cx: u32) -> usize
+fn title_size(cells: &[u32], width: u32, height: u32, measure: Measure, l: Label, cx: u32) -> usize
     requires { ⌜ (width * height ≤ length (now cells)) × (l .first + l .cells ≤ 2097152) × (l .top ≤ 1048576) × (1 ≤ l .lines) ⌝ }
-    ensures { λ r. ⌜ r ≡ titleSize (seen (now (cells .entry)) width height) cx (l .first) (l .top + 1) (l .cells) (l .lines) ⌝ }
+    requires { ⌜ ((k : ℕ) → k < width * height → Held (getD (now cells) k 0)) ⌝ }
+    ensures { λ r. ⌜ r ≡ titleSize (lenOf measure) (seen (now (cells .entry)) width height) cx (l .first) (l .top + 1) (l .cells) (l .lines) ⌝ }
 {
     if 1025 < l.lines {
         return 0;
@@ -32,7 +48,7 @@ fn title_size(cells: &[u32], width: u32, height: u32, l: Label, cx: u32) -> usiz
     if 1024 < b.bytes {
         return 0;
     }
-    if b.longest != text::wide(l.cells) {
+    if longest_of(measure, b) != text::wide(l.cells) {
         return 0;
     }
     b.bytes
@@ -82,6 +98,8 @@ pub(crate) fn add_at(
     cells: &[u32],
     width: u32,
     height: u32,
+    measure: Measure,
+    g: Glyphs,
     cx: &[u32; 257],
     j: u32,
     band: &[u32; 33],
@@ -93,16 +111,16 @@ pub(crate) fn add_at(
     lines: &mut [u32; 256],
     longest: &mut [u32; 256],
 ) -> Collected
-    requires { ⌜ Known (now cells) width height (now cx) (now band) (now cy)
+    requires { ⌜ Known (marksIn g) (now cells) width height (now cx) (now band) (now cy)
         × (j < outside (seen (now cells) width height) width height .nc) × (i < outside (seen (now cells) width height) width height .nr) ⌝ }
     requires { ⌜ (c .bad ≡ false)
-        × Partly (now cells) width height (cellsBefore (now cells) width height j i) (c .nodes) (c .bytes) (now table) (now middle) (now lines) (now longest) ⌝ }
-    ensures { λ r. ⌜ Answered (now (cells .entry)) width height (cellsBefore (now (cells .entry)) width height j (i + 1))
+        × Partly (lenOf measure) (now cells) width height (cellsBefore (marksIn g) (now cells) width height j i) (c .nodes) (c .bytes) (now table) (now middle) (now lines) (now longest) ⌝ }
+    ensures { λ r. ⌜ Answered (lenOf measure) (marksIn g) (now (cells .entry)) width height (cellsBefore (marksIn g) (now (cells .entry)) width height j (i + 1))
         (r .bad) (r .nodes) (r .bytes) (now (table .exit)) (now (middle .exit)) (now (lines .exit)) (now (longest .exit)) ⌝ }
 {
     let row = text::wide(i);
     let x = cx[text::wide(j)];
-    let l = picture_sight::label_at(cells, width, height, band[row], cy[row], x);
+    let l = picture_sight::label_at(cells, width, height, g, band[row], cy[row], x);
     if l.lines == 0 {
         return c;
     }
@@ -110,7 +128,7 @@ pub(crate) fn add_at(
     if 255 < k {
         return none();
     }
-    let size = title_size(cells, width, height, l, x);
+    let size = title_size(cells, width, height, measure, l, x);
     if size == 0 {
         return none();
     }
@@ -127,9 +145,11 @@ pub(crate) fn add_at(
         lines,
         longest,
     );
+    let nodes = k + 1;
+    let bytes = c.bytes + size;
     Collected {
-        nodes: k + 1,
-        bytes: c.bytes + size,
+        nodes,
+        bytes,
         bad: false,
     }
 }

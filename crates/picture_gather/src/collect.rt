@@ -1,10 +1,13 @@
 // The cells of the picture, column by column.
 use crate::add::Collected;
 use crate::add::add_at;
+use rules::Glyphs;
+use rules::Measure;
 ghost use mathlib.Core.Path.{_≡_};
 ghost use mathlib.Core.Bool.{true, false};
 ghost use Prim.Native.Nat.{_<_, _+_};
 ghost use lib.ListN.{replicate};
+ghost use Rattle.rules.specs.Look.{lenOf, marksIn};
 ghost use Rattle.rules.proofs.Candidate.{outside};
 ghost use Rattle.picture_sight.specs.Seen.{seen};
 ghost use Rattle.picture_gather.specs.Gathered.{Gathered, Misfit};
@@ -16,6 +19,8 @@ fn gather_column(
     cells: &[u32],
     width: u32,
     height: u32,
+    measure: Measure,
+    g: Glyphs,
     cx: &[u32; 257],
     j: u32,
     band: &[u32; 33],
@@ -27,11 +32,11 @@ fn gather_column(
     lines: &mut [u32; 256],
     longest: &mut [u32; 256],
 ) -> Collected
-    requires { ⌜ Known (now cells) width height (now cx) (now band) (now cy)
+    requires { ⌜ Known (marksIn g) (now cells) width height (now cx) (now band) (now cy)
         × (j < outside (seen (now cells) width height) width height .nc) × (nrows ≡ outside (seen (now cells) width height) width height .nr) ⌝ }
     requires { ⌜ (before .bad ≡ false)
-        × Partly (now cells) width height (cellsBefore (now cells) width height j 0) (before .nodes) (before .bytes) (now table) (now middle) (now lines) (now longest) ⌝ }
-    ensures { λ r. ⌜ Answered (now (cells .entry)) width height (cellsBefore (now (cells .entry)) width height (j + 1) 0)
+        × Partly (lenOf measure) (now cells) width height (cellsBefore (marksIn g) (now cells) width height j 0) (before .nodes) (before .bytes) (now table) (now middle) (now lines) (now longest) ⌝ }
+    ensures { λ r. ⌜ Answered (lenOf measure) (marksIn g) (now (cells .entry)) width height (cellsBefore (marksIn g) (now (cells .entry)) width height (j + 1) 0)
         (r .bad) (r .nodes) (r .bytes) (now (table .exit)) (now (middle .exit)) (now (lines .exit)) (now (longest .exit)) ⌝ }
 {
     let mut c = before;
@@ -41,6 +46,8 @@ fn gather_column(
             cells,
             width,
             height,
+            measure,
+            g,
             cx,
             j,
             band,
@@ -61,11 +68,13 @@ fn gather_column(
 }
 
 // The nodes of the only plan that can have been drawn: their depths, title starts and title lengths into the table, and each
-// one's middle, lines and longest line.
+// one's middle, lines and longest line by the measure.
 pub fn gather(
     cells: &[u32],
     width: u32,
     height: u32,
+    measure: Measure,
+    g: Glyphs,
     cx: &[u32; 257],
     ncols: u32,
     band: &[u32; 33],
@@ -76,11 +85,11 @@ pub fn gather(
     lines: &mut [u32; 256],
     longest: &mut [u32; 256],
 ) -> Collected
-    requires { ⌜ Known (now cells) width height (now cx) (now band) (now cy)
+    requires { ⌜ Known (marksIn g) (now cells) width height (now cx) (now band) (now cy)
         × (ncols ≡ outside (seen (now cells) width height) width height .nc) × (nrows ≡ outside (seen (now cells) width height) width height .nr) ⌝ }
     requires { ⌜ (now table ≡ replicate 768 0) × (now middle ≡ replicate 256 0) × (now lines ≡ replicate 256 0) × (now longest ≡ replicate 256 0) ⌝ }
-    ensures { λ r. ⌜ (r .bad ≡ false → Gathered (now (cells .entry)) width height (r .nodes) (r .bytes) (now (table .exit)) (now (middle .exit)) (now (lines .exit)) (now (longest .exit)))
-        × (r .bad ≡ true → Misfit (now (cells .entry)) width height) ⌝ }
+    ensures { λ r. ⌜ (r .bad ≡ false → Gathered (lenOf measure) (marksIn g) (now (cells .entry)) width height (r .nodes) (r .bytes) (now (table .exit)) (now (middle .exit)) (now (lines .exit)) (now (longest .exit)))
+        × (r .bad ≡ true → Misfit (lenOf measure) (marksIn g) (now (cells .entry)) width height) ⌝ }
 {
     let mut c = Collected {
         nodes: 0,
@@ -93,6 +102,8 @@ pub fn gather(
             cells,
             width,
             height,
+            measure,
+            g,
             cx,
             j,
             band,

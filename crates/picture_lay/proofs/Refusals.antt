@@ -37,7 +37,7 @@ pass true true true true a next h = refl
 
 stop : (v e t u : Bool) (a : ℕ) (next other : Reading) → (v && e && t && u) ≡ false
     → (tests v e t u a next ≡ tests v e t u a other) × (1 ≤ readerNumber (tests v e t u a next))
-unfolding tests pick readerNumber
+unfolding tests pick
 stop false e t u a next other h = (refl, omega arith)
 stop true false t u a next other h = (refl, omega arith)
 stop true true false u a next other h = (refl, omega arith)
@@ -71,7 +71,7 @@ module _ (P : List ℕ) (cells : ℕ) where
   not-there z = go (placed P cells) refl
     where
       go : (b : Bool) → placed P cells ≡ b → b ≡ false
-      go true e = absurd (unfold readerNumber in omega (arith, ap readerNumber (passed e (Reading.Done 0))))
+      go true e = absurd (omega (arith, ap readerNumber (passed e (Reading.Done 0))))
       go false e = refl
 
   -- and a picture that is there has room, and is not too large

@@ -12,12 +12,11 @@ use Rattle.rules.specs.Base.{pick}
 use Rattle.rules.specs.Plan.{Node, nodeAt, depthAt}
 use Rattle.rules.specs.Levels.{Cell, view, columnAt}
 use Rattle.rules.specs.Measures.{cx, cy, canvasHeight}
-use Rattle.rules.specs.Drawing.{Marks, boxes}
+use Rattle.rules.specs.Drawing.{Marks}
 use Rattle.rules.proofs.Bounds.{column-below}
 use Rattle.rules.proofs.Candidate.{Outside, from, outside, foundAt, found, planFound}
 use Rattle.levels.specs.Between.{cellOf}
 use Rattle.marks.proofs.Back.{nodeOf}
-use Rattle.marks.proofs.Ends.{lawful}
 use Rattle.marks.proofs.Picture.{Laid, laid}
 use Rattle.marks.proofs.Points.{mem-from}
 use Rattle.marks.proofs.Reading.{Shown, Right-outside, outside-is, found-is, getD-mem}
@@ -69,48 +68,48 @@ deep-found cs n k f l =
     let z : Cell = record { row = 0; column = 0; title = [] } in
     omega (arith, node-row cs k, f (getD cs k z) (getD-mem z cs k (omega (arith, length-map cs nodeOf))))
 
-pub deep-seen : (cells : List ℕ) (w h k : ℕ) → k < length (planSeen cells w h) → depthAt (planSeen cells w h) k < outside (seen cells w h) w h .nr
+pub deep-seen : (marks : Marks) (cells : List ℕ) (w h k : ℕ) → k < length (planSeen marks cells w h) → depthAt (planSeen marks cells w h) k < outside (seen cells w h) w h .nr
 unfolding planSeen planFound
-deep-seen cells w h k l =
+deep-seen marks cells w h k l =
     let o = outside (seen cells w h) w h in
-    deep-found (found boxes (seen cells w h) w o) (o .nr) k (found-row boxes (seen cells w h) w o) l
+    deep-found (found marks (seen cells w h) w o) (o .nr) k (found-row marks (seen cells w h) w o) l
 
-module _ {cells : List ℕ} {w h nodes : ℕ} {rows table middle lines most : List ℕ} (v : Given cells w h rows table nodes middle lines most) (d : Drawn cells w h) where
-  lay : Laid (view (planSeen cells w h))
-  lay = laid length boxes (planSeen cells w h) (drawable v)
+module _ {len : List ℕ → ℕ} {marks : Marks} {cells : List ℕ} {w h nodes : ℕ} {rows table middle lines most : List ℕ} (v : Given len marks cells w h rows table nodes middle lines most) (d : Drawn len marks cells w h) where
+  lay : Laid (view (planSeen marks cells w h))
+  lay = laid len marks (planSeen marks cells w h) (drawable v)
 
-  as-shown : Shown length boxes (view (planSeen cells w h)) (seen cells w h)
+  as-shown : Shown len marks (view (planSeen marks cells w h)) (seen cells w h)
   as-shown = record {
     point = λ x y a b.
         d .point x y (rw (d .wide) a) (rw (d .high) b)
-        ∙ sym (Points.whole length boxes (view (planSeen cells w h)) lawful (lay .proper-view) (lay .rising-view) (lay .few-rows) x y a b);
+        ∙ sym (Points.whole len marks (view (planSeen marks cells w h)) (v .lawful) (lay .proper-view) (lay .rising-view) (lay .few-rows) x y a b);
     below = λ x y b. seen-below cells w h x y (rw (d .high) b);
   }
 
-  right : Right-outside length boxes lawful (view (planSeen cells w h)) (lay .proper-view) (lay .rising-view) (seen cells w h) as-shown (outside (seen cells w h) w h)
+  right : Right-outside len marks (v .lawful) (view (planSeen marks cells w h)) (lay .proper-view) (lay .rising-view) (seen cells w h) as-shown (outside (seen cells w h) w h)
   right =
       subst
-      (λ (o : Outside). Right-outside length boxes lawful (view (planSeen cells w h)) (lay .proper-view) (lay .rising-view) (seen cells w h) as-shown o)
-      (ap (λ (x : ℕ). outside (seen cells w h) x (canvasHeight (view (planSeen cells w h)))) (sym (d .wide)) ∙ ap (outside (seen cells w h) w) (sym (d .high)))
-      (outside-is length boxes lawful (view (planSeen cells w h)) (lay .proper-view) (lay .rising-view) (seen cells w h) as-shown (lay .few-rows) (columns-le (planSeen cells w h) (limits v)))
+      (λ (o : Outside). Right-outside len marks (v .lawful) (view (planSeen marks cells w h)) (lay .proper-view) (lay .rising-view) (seen cells w h) as-shown o)
+      (ap (λ (x : ℕ). outside (seen cells w h) x (canvasHeight (view (planSeen marks cells w h)))) (sym (d .wide)) ∙ ap (outside (seen cells w h) w) (sym (d .high)))
+      (outside-is len marks (v .lawful) (view (planSeen marks cells w h)) (lay .proper-view) (lay .rising-view) (seen cells w h) as-shown (lay .few-rows) (columns-le (planSeen marks cells w h) (limits v)))
 
-  cells-seen : cellsSeen cells w h ≡ view (planSeen cells w h) .cells
+  cells-seen : cellsSeen marks cells w h ≡ view (planSeen marks cells w h) .cells
   unfolding cellsSeen
   cells-seen =
-      ap (λ (x : ℕ). found boxes (seen cells w h) x (outside (seen cells w h) w h)) (d .wide)
-      ∙ found-is length boxes lawful (view (planSeen cells w h)) (lay .proper-view) (lay .rising-view) (seen cells w h) as-shown (clean v) (lay .few-rows)
+      ap (λ (x : ℕ). found marks (seen cells w h) x (outside (seen cells w h) w h)) (d .wide)
+      ∙ found-is len marks (v .lawful) (view (planSeen marks cells w h)) (lay .proper-view) (lay .rising-view) (seen cells w h) as-shown (clean v) (lay .few-rows)
       (outside (seen cells w h) w h) right
 
   -- the middles, and the rows' centres
-  pub middle-drawn : (k : ℕ) → k < nodes → getD middle k 0 ≡ cx length (view (planSeen cells w h)) (columnAt (planSeen cells w h) k)
+  pub middle-drawn : (k : ℕ) → k < nodes → getD middle k 0 ≡ cx len (view (planSeen marks cells w h)) (columnAt (planSeen marks cells w h) k)
   middle-drawn k l =
-      let p = planSeen cells w h in
+      let p = planSeen marks cells w h in
       let b : k < length p = omega (arith, v .gathered .counted) in
       let z : Cell = record { row = 0; column = 0; title = [] } in
-      let e : cellSeen cells w h k ≡ cellOf p k = ap (λ (cs : List Cell). getD cs k z) cells-seen ∙ cell-at p (title-some v) k z b in
+      let e : cellSeen marks cells w h k ≡ cellOf p k = ap (λ (cs : List Cell). getD cs k z) cells-seen ∙ cell-at p (title-some v) k z b in
       v .gathered .middles-are k l
       ∙ ap (λ (c : Cell). outside (seen cells w h) w h .cx (c .column)) e
       ∙ right .cx-is (columnAt p k) (omega (arith, column-below p k b, view-columns p))
 
-  pub row-drawn : (i : ℕ) → i < view (planSeen cells w h) .rows → getD rows i 0 ≡ cy (view (planSeen cells w h)) i
+  pub row-drawn : (i : ℕ) → i < view (planSeen marks cells w h) .rows → getD rows i 0 ≡ cy (view (planSeen marks cells w h)) i
   row-drawn i l = v .rows-are i (omega (arith, right .nr-is)) ∙ right .cy-is i l

@@ -8,6 +8,7 @@ use native.Mathlib.Omega.{arith}
 use lib.ListN.{length, getD}
 use Rattle.rules.specs.Measures as M
 use Rattle.rules.specs.Plan.{depthAt}
+use Rattle.rules.specs.Drawing.{Marks}
 use Rattle.rules.specs.Levels.{columnAt, view}
 use Rattle.rules.proofs.Bounds.{column-below, row-below}
 use Rattle.marks.specs.Alike.{alike}
@@ -23,42 +24,44 @@ use Rattle.picture_same.proofs.Known.{drawable, limits, lettered}
 use Rattle.picture_same.proofs.Planned.{table-long, depth-of, lines-of, longest-of}
 use Rattle.picture_same.proofs.Centres.{deep-seen, middle-drawn, row-drawn}
 
-module _ {cells : List ℕ} {w h nodes : ℕ} {rows table middle lines most : List ℕ} (v : Given cells w h rows table nodes middle lines most)
-    (column : List ℕ) {cx xs cy ys : List ℕ} {ncols nrows : ℕ} (placed : (k : ℕ) → k < nodes → getD column k 0 ≡ columnAt (planSeen cells w h) k)
-    (n : Numbers (view (planSeen cells w h)) w h ncols nrows cx xs cy ys) where
+module _ {len : List ℕ → ℕ} {marks : Marks} {cells : List ℕ} {w h nodes : ℕ} {rows table middle lines most : List ℕ} (v : Given len marks cells w h rows table nodes middle lines most)
+    (column : List ℕ) {cx xs cy ys : List ℕ} {ncols nrows : ℕ} (placed : (k : ℕ) → k < nodes → getD column k 0 ≡ columnAt (planSeen marks cells w h) k)
+    (n : Numbers len (view (planSeen marks cells w h)) w h ncols nrows cx xs cy ys) where
   -- the centre of the column of node k
-  column-centre : (k : ℕ) → k < nodes → middleAt column cx k ≡ M.cx length (view (planSeen cells w h)) (columnAt (planSeen cells w h) k)
+  column-centre : (k : ℕ) → k < nodes → middleAt column cx k ≡ M.cx len (view (planSeen marks cells w h)) (columnAt (planSeen marks cells w h) k)
   column-centre k l =
-      let p = planSeen cells w h in
+      let p = planSeen marks cells w h in
       ap (λ (j : ℕ). getD cx j 0) (placed k l) ∙ n .cx-is (columnAt p k) (omega (arith, column-below p k (omega (arith, v .gathered .counted)), view-columns p))
 
-  row-centre : (i : ℕ) → i < nrows → getD cy i 0 ≡ M.cy (view (planSeen cells w h)) i
+  row-centre : (i : ℕ) → i < nrows → getD cy i 0 ≡ M.cy (view (planSeen marks cells w h)) i
   row-centre i l = n .cy-is i (omega (arith, n .rows-are))
 
-  pub other-middles : alike (λ k. getD middle k 0) (middleAt column cx) 0 nodes ≡ false → Drawn cells w h → ⊥
+  pub other-middles : alike (λ k. getD middle k 0) (middleAt column cx) 0 nodes ≡ false → Drawn len marks cells w h → ⊥
   other-middles e q =
       false≢true (sym e ∙ alike-if (λ k. getD middle k 0) (middleAt column cx) 0 nodes (λ k a l. middle-drawn v q k l ∙ sym (column-centre k l)))
 
-  pub other-rows : alike (λ i. getD rows i 0) (λ i. getD cy i 0) 0 nrows ≡ false → Drawn cells w h → ⊥
+  pub other-rows : alike (λ i. getD rows i 0) (λ i. getD cy i 0) 0 nrows ≡ false → Drawn len marks cells w h → ⊥
   other-rows e q =
       false≢true (sym e ∙ alike-if (λ i. getD rows i 0) (λ i. getD cy i 0) 0 nrows (λ i a l. row-drawn v q i (omega (arith, n .rows-are)) ∙ sym (row-centre i l)))
 
   letters-stand : alike (λ k. getD middle k 0) (middleAt column cx) 0 nodes ≡ true → alike (λ i. getD rows i 0) (λ i. getD cy i 0) 0 nrows ≡ true
-      → Lettered (view (planSeen cells w h)) (seen cells w h)
+      → Lettered len (view (planSeen marks cells w h)) (seen cells w h)
   letters-stand e f =
-      let p = planSeen cells w h in
+      let p = planSeen marks cells w h in
       lettered v (λ k l. alike-all (λ k. getD middle k 0) (middleAt column cx) 0 nodes e k (omega arith) l ∙ column-centre k l)
       (λ k l.
       (let b : k < length p = omega (arith, v .gathered .counted) in
       let i : depthAt p k < nrows = omega (arith, row-below p k b, view-rows p, n .rows-are) in
-      sym (v .rows-are (depthAt p k) (deep-seen cells w h k b))
+      sym (v .rows-are (depthAt p k) (deep-seen marks cells w h k b))
       ∙ alike-all (λ i. getD rows i 0) (λ i. getD cy i 0) 0 nrows f (depthAt p k) (omega arith) i
       ∙ row-centre (depthAt p k) i))
 
   -- all that is asked before the bands are compared
   pub ready : alike (λ k. getD middle k 0) (middleAt column cx) 0 nodes ≡ true → alike (λ i. getD rows i 0) (λ i. getD cy i 0) 0 nrows ≡ true
-      → Ready (planSeen cells w h) (seen cells w h) w h table nodes column lines most cx xs ncols cy ys nrows
+      → Ready len marks (planSeen marks cells w h) (seen cells w h) w h table nodes column lines most cx xs ncols cy ys nrows
   ready e f = record {
+    lawful = v .lawful;
+    short = v .short;
     drawable = drawable v;
     small = limits v;
     numbers = n;

@@ -4,6 +4,7 @@ ghost use mathlib.Core.Bool.{false, _&&_};
 ghost use Prim.Native.Nat.{ℕ, _*_, _-_, _≤_, _<_, _^_};
 ghost use lib.Dec.{eqb};
 ghost use lib.ListN.{length, getD};
+ghost use Rattle.rules.specs.Look.{lenOf, marksIn};
 ghost use Rattle.rules.specs.Levels.{columnAt, view};
 ghost use Rattle.marks.specs.Numbers.{Numbers};
 ghost use Rattle.picture_sight.specs.Seen.{seen};
@@ -12,6 +13,8 @@ ghost use Rattle.tree_view.specs.Sizes.{sumAt};
 ghost use Rattle.picture_bands.specs.Ready.{Ready};
 ghost use Rattle.picture_same.specs.Given.{Drawn, Given, Tells};
 use crate::level;
+use rules::Glyphs;
+use rules::Measure;
 
 // The canvas has the size of a drawing of these columns and rows.
 fn sized<'a, 'b>(
@@ -40,6 +43,8 @@ fn compared(
     cells: &[u32],
     width: u32,
     height: u32,
+    measure: Measure,
+    g: Glyphs,
     table: &[u32],
     nodes: usize,
     column: &[u32; 256],
@@ -53,14 +58,28 @@ fn compared(
     nrows: u32,
 ) -> bool
     requires { ⌜ (width * height ≤ length (now cells)) × (width * height ≤ 1048576) ⌝ }
-    requires { ⌜ Ready (planSeen (now cells) width height) (seen (now cells) width height) width height (now table) nodes (now column) (now lines) (now longest) (now cx) (now xs) ncols (now cy) (now ys) nrows ⌝ }
-    ensures { λ r. ⌜ Tells r (Drawn (now (cells .entry)) width height) ⌝ }
+    requires { ⌜ Ready (lenOf measure) (marksIn g) (planSeen (marksIn g) (now cells) width height) (seen (now cells) width height) width height (now table) nodes (now column) (now lines) (now longest) (now cx) (now xs) ncols (now cy) (now ys) nrows ⌝ }
+    ensures { λ r. ⌜ Tells r (Drawn (lenOf measure) (marksIn g) (now (cells .entry)) width height) ⌝ }
 {
-    if picture_edges::edges_same(cells, width, height, cx, xs, ncols, cy, ys, nrows) {
+    if picture_edges::edges_same(
+        cells,
+        width,
+        height,
+        measure,
+        g,
+        cx,
+        xs,
+        ncols,
+        cy,
+        ys,
+        nrows,
+    ) {
         return picture_bands::bands_same(
             cells,
             width,
             height,
+            measure,
+            g,
             table,
             nodes,
             column,
@@ -82,6 +101,8 @@ fn matches<'a>(
     cells: &[u32],
     width: u32,
     height: u32,
+    measure: Measure,
+    g: Glyphs,
     centers: &[u32; 33],
     table: &[u32],
     nodes: usize,
@@ -96,10 +117,10 @@ fn matches<'a>(
     ys: &[u32; 32],
     nrows: u32,
 ) -> bool
-    requires { ⌜ Given (now cells) width height (now centers) (now table) nodes (now middle) (now lines) (now longest) ⌝ }
-    requires { ⌜ ((k : ℕ) → k < nodes → getD (now column) k 0 ≡ columnAt (planSeen (now cells) width height) k) ⌝ }
-    requires { ⌜ Numbers (view (planSeen (now cells) width height)) width height ncols nrows (now cx) (now xs) (now cy) (now ys) ⌝ }
-    ensures { λ r. ⌜ Tells r (Drawn (now (cells .entry)) width height) ⌝ }
+    requires { ⌜ Given (lenOf measure) (marksIn g) (now cells) width height (now centers) (now table) nodes (now middle) (now lines) (now longest) ⌝ }
+    requires { ⌜ ((k : ℕ) → k < nodes → getD (now column) k 0 ≡ columnAt (planSeen (marksIn g) (now cells) width height) k) ⌝ }
+    requires { ⌜ Numbers (lenOf measure) (view (planSeen (marksIn g) (now cells) width height)) width height ncols nrows (now cx) (now xs) (now cy) (now ys) ⌝ }
+    ensures { λ r. ⌜ Tells r (Drawn (lenOf measure) (marksIn g) (now (cells .entry)) width height) ⌝ }
 {
     if level::centered(nodes, column, cx, middle) {
         if level::level(nrows, centers, cy) {
@@ -107,6 +128,8 @@ fn matches<'a>(
                 cells,
                 width,
                 height,
+                measure,
+                g,
                 table,
                 nodes,
                 column,
@@ -130,6 +153,8 @@ pub fn same(
     cells: &[u32],
     width: u32,
     height: u32,
+    measure: Measure,
+    g: Glyphs,
     centers: &[u32; 33],
     table: &[u32],
     nodes: usize,
@@ -137,8 +162,8 @@ pub fn same(
     lines: &[u32; 256],
     longest: &[u32; 256],
 ) -> bool
-    requires { ⌜ Given (now cells) width height (now centers) (now table) nodes (now middle) (now lines) (now longest) ⌝ }
-    ensures { λ r. ⌜ Tells r (Drawn (now (cells .entry)) width height) ⌝ }
+    requires { ⌜ Given (lenOf measure) (marksIn g) (now cells) width height (now centers) (now table) nodes (now middle) (now lines) (now longest) ⌝ }
+    ensures { λ r. ⌜ Tells r (Drawn (lenOf measure) (marksIn g) (now (cells .entry)) width height) ⌝ }
 {
     let mut column = [0u32; 256];
     let nrows = levels::rows(table, nodes);
@@ -162,6 +187,8 @@ pub fn same(
             cells,
             width,
             height,
+            measure,
+            g,
             centers,
             table,
             nodes,

@@ -2,7 +2,7 @@
 use mathlib.Core.Path.{_≡_, refl, ap, sym, _∙_}
 use mathlib.Core.List.{List, [], _∷_, _++_, map, append-assoc}
 use Prim.Native.Nat.{ℕ, suc, zero, _+_, _*_, _≤_, _<_, max}
-use native.Mathlib.Nat.{not-suc-le-zero}
+use native.Mathlib.Nat.{not-suc-le-zero, zero-add}
 use native.Mathlib.Numerals.{add-one}
 use native.Mathlib.Omega.{arith}
 use lib.ListN.{length, set, length-append, length-map}
@@ -12,6 +12,7 @@ use Rattle.rules.specs.Base.{concat, greatest}
 use Rattle.rules.specs.Utf8.{utf8}
 use Rattle.rules.proofs.Codec.{utf8-size}
 use Rattle.rules.proofs.Candidate.{from, trim, joined, lineAt}
+use Rattle.marks.proofs.Order.{from-snoc}
 use Rattle.marks.proofs.Text.{map-snoc, length-from}
 use Rattle.levels.proofs.Plans.{greatest-snoc}
 use Rattle.picture_sight.proofs.Bytes.{bytes-none, length-more, trim-most, line-marks}
@@ -55,6 +56,14 @@ module _ (f : ℕ → List ℕ) where
       → r ≡ sets (set m b 10) (b + 1) (f k) → r ≡ sets l a (joined (map f (from 0 (k + 1))))
   block-stored l m r a b k h t p q =
       q ∙ rw (add-one b) (rw (p, t) (sym (ap (sets l a) (block-more k h) ∙ sets-append l a (joined (map f (from 0 k))) (10 ∷ f k))))
+
+-- the greatest of one number, and of one more
+pub most-first : (m : ℕ → ℕ) → greatest m (from 0 1) ≡ m 0
+unfolding greatest from
+most-first m = omega arith
+
+pub most-more : (m : ℕ → ℕ) (k : ℕ) → greatest m (from 0 (k + 1)) ≡ max (greatest m (from 0 k)) (m k)
+most-more m k = rw (add-one k) (ap (greatest m) (from-snoc 0 k) ∙ greatest-snoc m (from 0 k) (0 + k) ∙ ap (λ (q : ℕ). max (greatest m (from 0 k)) (m q)) (zero-add k))
 
 bytes-most : (f : ℕ → ℕ) (n : ℕ) → length (concat utf8 (map f (from 0 n))) ≤ 4 * n
 bytes-most f zero = omega (arith, ap length (bytes-none f))

@@ -1,7 +1,7 @@
 -- A cell by the numbers that are seen of it: there is one where it has lines, its title is these lines joined, and they are the lines
 -- of the title.
 use mathlib.Core.Path.{_≡_, refl, ap, sym, _∙_}
-use mathlib.Core.List.{[], _∷_, map}
+use mathlib.Core.List.{List, [], _∷_, map}
 use Prim.Native.Nat.{ℕ, _+_, _*_, _-_, _≤_, _<_, max}
 use native.Mathlib.Decide.{decLe}
 use native.Mathlib.Omega.{arith}
@@ -11,7 +11,7 @@ use borrow.Author.Tests.{lt-ltb, le-ltb}
 use Rattle.rules.specs.Base.{pick, greatest}
 use Rattle.rules.specs.Lines.{linesOf}
 use Rattle.rules.specs.Measures.{lineCount, longest}
-use Rattle.rules.specs.Drawing.{boxes}
+use Rattle.rules.specs.Drawing.{Marks}
 use Rattle.rules.proofs.Firsts.{first-most}
 use Rattle.rules.proofs.Candidate.{from, next, marked, joined, lineAt, foundAt}
 use Rattle.marks.proofs.Text.{length-from}
@@ -21,10 +21,10 @@ use Rattle.picture_sight.proofs.Most.{cell-is}
 use Rattle.picture_sight.proofs.Split.{Open, joined-split, line-open, map-all}
 use Rattle.picture_sight.proofs.Offsets.{box-some, box-most, lines-seen}
 
-module _ (g : ℕ → ℕ → ℕ) (w band cy cx : ℕ) where
+module _ (marks : Marks) (g : ℕ → ℕ → ℕ) (w band cy cx : ℕ) where
   -- x and top, as `less` and `mark_below` give them
   pub labelled-here : {x top lines at cells : ℕ} → x ≡ cx - 2 → top ≡ next (λ y. marked g x y) band cy → top < cy → lines ≡ boxLines g x cy top
-      → at ≡ leftSide g cx top + 2 → cells ≡ rightSide g w cx top - leftSide g cx top - 3 → Labelled g w band cy cx lines top at cells
+      → at ≡ leftSide marks g cx top + 2 → cells ≡ rightSide marks g w cx top - leftSide marks g cx top - 3 → Labelled marks g w band cy cx lines top at cells
   unfolding pick
   labelled-here {x} {top} e t h n a c =
       record {
@@ -33,7 +33,7 @@ module _ (g : ℕ → ℕ → ℕ) (w band cy cx : ℕ) where
         gone = λ l. absurd (omega (arith, t ∙ ap (λ q. next (λ y. marked g q y) band cy) e));
       }
 
-  pub labelled-gone : {x top : ℕ} → x ≡ cx - 2 → top ≡ next (λ y. marked g x y) band cy → cy ≤ top → Labelled g w band cy cx 0 0 0 0
+  pub labelled-gone : {x top : ℕ} → x ≡ cx - 2 → top ≡ next (λ y. marked g x y) band cy → cy ≤ top → Labelled marks g w band cy cx 0 0 0 0
   unfolding pick
   labelled-gone {x} {top} e t h =
       record {
@@ -42,7 +42,7 @@ module _ (g : ℕ → ℕ → ℕ) (w band cy cx : ℕ) where
         gone = λ l. (refl, refl, refl, refl);
       }
 
-  module _ {lines top at cells : ℕ} (l : Labelled g w band cy cx lines top at cells) where
+  module _ {lines top at cells : ℕ} (l : Labelled marks g w band cy cx lines top at cells) where
     -- no lines, no cell
     label-gone : lines ≡ 0 → cy ≤ topSeen g band cy cx
     label-gone e =
@@ -51,7 +51,7 @@ module _ (g : ℕ → ℕ → ℕ) (w band cy cx : ℕ) where
           | no h ↦ let n = l .here (omega arith) in absurd (omega (arith, n .3, box-some g (cx - 2) cy top))
         ]
 
-    pub cell-none : (i j : ℕ) → lines ≡ 0 → foundAt boxes g w band cy cx i j ≡ []
+    pub cell-none : (i j : ℕ) → lines ≡ 0 → foundAt marks g w band cy cx i j ≡ []
     unfolding foundAt pick
     cell-none i j e = rw (le-ltb (topSeen g band cy cx) cy (label-gone e))
 
@@ -64,11 +64,11 @@ module _ (g : ℕ → ℕ → ℕ) (w band cy cx : ℕ) where
         ]
 
     -- the cell, its title being its lines joined
-    pub cell-some : (i j : ℕ) → 1 ≤ lines → foundAt boxes g w band cy cx i j ≡ record { row = i; column = j; title = joined (map (λ r. lineAt g at (top + 1 + r) cells) (from 0 lines)) } ∷ []
+    pub cell-some : (i j : ℕ) → 1 ≤ lines → foundAt marks g w band cy cx i j ≡ record { row = i; column = j; title = joined (map (λ r. lineAt g at (top + 1 + r) cells) (from 0 lines)) } ∷ []
     unfolding foundAt pick
     cell-some i j h =
         let n = l .here (label-here h) in
-        rw (lt-ltb (topSeen g band cy cx) cy (label-here h), lines-seen g w cx cy (topSeen g band cy cx), ← n .0, ← n .1, ← n .2, ← n .3)
+        rw (lt-ltb (topSeen g band cy cx) cy (label-here h), lines-seen marks g w cx cy (topSeen g band cy cx), ← n .0, ← n .1, ← n .2, ← n .3)
 
     -- where its numbers lie
     pub label-below : 1 ≤ lines → (top < cy) × (top + lines < 2 * cy)
@@ -81,8 +81,8 @@ module _ (g : ℕ → ℕ → ℕ) (w band cy cx : ℕ) where
     unfolding leftSide rightSide next
     label-beside h =
         let n = l .here (label-here h) in
-        let a = first-most (λ q. eqb (g (cx - 2 - q) top) (boxes .╭)) (cx - 2) in
-        let b = first-most (λ q. eqb (g (cx + 1 + q) top) (boxes .╮)) (w - (cx + 1)) in
+        let a = first-most (λ q. eqb (g (cx - 2 - q) top) (marks .╭)) (cx - 2) in
+        let b = first-most (λ q. eqb (g (cx + 1 + q) top) (marks .╮)) (w - (cx + 1)) in
         omega (arith, n .1, n .2, a, b)
 
 -- lines of marks that are no 0A are those of the title that they make
@@ -95,6 +95,6 @@ module _ (g : ℕ → ℕ → ℕ) (open-marks : (x y : ℕ) → g x y ≡ 10 �
   pub label-lines : lineCount (record { row = i; column = j; title = joined (map (λ r. lineAt g x (y + r) t) (from 0 n)) }) ≡ n
   label-lines = ap length label-split ∙ rw (length-map, length-from)
 
-  pub label-longest : longest length (record { row = i; column = j; title = joined (map (λ r. lineAt g x (y + r) t) (from 0 n)) }) ≡ greatest length (map (λ r. lineAt g x (y + r) t) (from 0 n))
+  pub label-longest : (len : List ℕ → ℕ) → longest len (record { row = i; column = j; title = joined (map (λ r. lineAt g x (y + r) t) (from 0 n)) }) ≡ greatest len (map (λ r. lineAt g x (y + r) t) (from 0 n))
   unfolding longest
-  label-longest = ap (greatest length) label-split
+  label-longest len = ap (greatest len) label-split

@@ -11,7 +11,7 @@ use borrow.Author.Tests.{ne-eqb}
 use Rattle.rules.specs.Base.{pick, greatest, concat, first}
 use Rattle.rules.specs.Levels.{Cell}
 use Rattle.rules.specs.Measures.{lineCount}
-use Rattle.rules.specs.Drawing.{Marks, boxes}
+use Rattle.rules.specs.Drawing.{Marks}
 use Rattle.rules.proofs.Candidate.{from, next, marked, joined, lineAt, Outside, linesAt, foundAt, rowFrom, bandOf}
 use Rattle.marks.proofs.Text.{length-from}
 use Rattle.picture_sight.specs.Seen.{boxLines, cellLines, mostLines, bandSeen, leftSide, rightSide}
@@ -101,7 +101,7 @@ module _ (marks : Marks) (g : ℕ → ℕ → ℕ) (w : ℕ) where
         rw before (omega (arith, most, row-count o band i))
 
 -- the lines of a box, by its sides
-pub lines-seen : (g : ℕ → ℕ → ℕ) (w cx cy y : ℕ)
-    → linesAt boxes g w cx cy y ≡ map (λ r. lineAt g (leftSide g cx y + 2) (y + 1 + r) (rightSide g w cx y - leftSide g cx y - 3)) (from 0 (boxLines g (cx - 2) cy y))
+pub lines-seen : (marks : Marks) (g : ℕ → ℕ → ℕ) (w cx cy y : ℕ)
+    → linesAt marks g w cx cy y ≡ map (λ r. lineAt g (leftSide marks g cx y + 2) (y + 1 + r) (rightSide marks g w cx y - leftSide marks g cx y - 3)) (from 0 (boxLines g (cx - 2) cy y))
 unfolding linesAt leftSide rightSide boxLines
-lines-seen g w cx cy y = refl
+lines-seen marks g w cx cy y = refl

@@ -1,20 +1,35 @@
 -- Marks that lie on one row of the picture are a part of its cells, and the text of that part is the line of these marks.
 use mathlib.Core.Path.{_≡_, ap, sym, _∙_}
 use mathlib.Core.List.{List, map}
-use Prim.Native.Nat.{ℕ, suc, _+_, _*_, _≤_, _<_}
+use Prim.Native.Nat.{ℕ, suc, zero, _+_, _*_, _-_, _≤_, _<_}
 use native.Mathlib.Nat.{mul-le-mul-right, mul-comm, suc-mul}
+use native.Mathlib.Decide.{ℕ-discrete}
 use native.Mathlib.Omega.{arith}
 use lib.ListN.{length, getD, take, drop, length-take, length-drop}
 use lib.Seq.{getD-take, getD-drop}
-use borrow.Author.Tests.{lt-ltb}
+use borrow.Author.Tests.{lt-ltb, eq-eqb, ne-eqb}
 use Rattle.rules.specs.Base.{pick, concat}
 use Rattle.rules.specs.Utf8.{utf8}
+use Rattle.rules.specs.Drawing.{endOf}
 use Rattle.rules.proofs.Candidate.{from, trim, lineAt}
 use Rattle.marks.proofs.Walks.{map-same}
 use Rattle.marks.proofs.Text.{row-same}
 use Rattle.canvas_text.specs.Emit.{rowOf, endIn, bytesTo}
-use Rattle.picture_sight.specs.Seen.{seen}
+use Rattle.picture_sight.specs.Seen.{seen, marksAt}
 use Rattle.picture_sight.proofs.Seen.{cell-within}
+use Rattle.picture_sight.proofs.Trims.{trim-past, trim-here, length-marks, length-none}
+
+-- the end of a row is where its marks end
+end-trim : (g : ℕ → ℕ → ℕ) (y w : ℕ) → endOf g y w ≡ length (trim (map (λ x. g x y) (from 0 w)))
+unfolding endOf pick
+end-trim g y zero = sym (length-none (λ x. g x y))
+end-trim g y (suc w) =
+    let f : ℕ → ℕ = λ x. g x y in
+    let z : suc w - 1 ≡ w = omega arith in
+    elim (ℕ-discrete (g w y) 32) [
+      | yes e ↦ rw (eq-eqb (g w y) 32 e) (end-trim g y w ∙ sym (ap length (trim-past f (suc w) (omega arith) (ap f z ∙ e) ∙ ap (λ k. trim (map f (from 0 k))) z)))
+      | no e ↦ rw (ne-eqb (g w y) 32 e) (sym (ap length (trim-here f (suc w) (omega arith) (λ q. e (ap f (sym z) ∙ q))) ∙ length-marks f (suc w)))
+    ]
 
 module _ (cells : List ℕ) (w h x y n : ℕ) (fits : w * h ≤ length cells) (on : (x + n ≤ w) × (y < h)) where
   pub row-within : y * w + x + n ≤ length cells
@@ -36,6 +51,14 @@ module _ (cells : List ℕ) (w h x y n : ℕ) (fits : w * h ≤ length cells) (o
       let row = take n (drop (y * w + x) cells) in
       sym (row-same (rowOf row) 0 (length row) ∙ ap (λ k. concat utf8 (trim (map (λ q. getD row q 0) (from 0 k)))) row-length
       ∙ ap (λ (l : List ℕ). concat utf8 (trim l)) (map-same (λ q. getD row q 0) (λ q. seen cells w h (x + q) y) 0 n (λ q _ l. row-mark q (omega arith))))
+
+  -- its marks without the spaces at their end are as many as the part has up to there
+  pub row-marks : length (marksAt (seen cells w h) x y n) ≡ endIn (take n (drop (y * w + x) cells))
+  unfolding endIn rowOf
+  row-marks =
+      let row = take n (drop (y * w + x) cells) in
+      sym (end-trim (rowOf row) 0 (length row) ∙ ap (λ k. length (trim (map (λ q. getD row q 0) (from 0 k)))) row-length
+      ∙ ap (λ (l : List ℕ). length (trim l)) (map-same (λ q. getD row q 0) (λ q. seen cells w h (x + q) y) 0 n (λ q _ l. row-mark q (omega arith))))
 
   -- what is below a bound in the picture is below it there
   pub row-below : (m : ℕ) → ((k : ℕ) → k < w * h → getD cells k 0 < m) → (i : ℕ) → i < n → getD (take n (drop (y * w + x) cells)) i 0 < m

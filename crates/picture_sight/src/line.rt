@@ -8,12 +8,13 @@ ghost use Rattle.rules.specs.Base.{concat};
 ghost use Rattle.rules.specs.Utf8.{utf8};
 ghost use Rattle.rules.proofs.Candidate.{joined, lineAt};
 ghost use Rattle.rules.proofs.Candidate as rule;
-ghost use Rattle.picture_sight.specs.Seen.{seen};
+ghost use Rattle.picture_sight.specs.Seen.{seen, marksAt};
 use crate::look::at;
 use crate::part::line_end;
+use crate::row::Line;
 use crate::row::on_row;
 use crate::row::row_at;
-use crate::row::row_bytes;
+use crate::row::row_sizes;
 use crate::row::write_row;
 
 // The bytes of n marks from (x, y).
@@ -30,16 +31,20 @@ fn marks_bytes(cells: &[u32], width: u32, height: u32, x: u32, y: u32, n: u32) -
     total
 }
 
-// The bytes of a line of n cells from (x, y).
-pub(crate) fn line_bytes(cells: &[u32], width: u32, height: u32, x: u32, y: u32, n: u32) -> usize
+// The bytes and the code points of a line of n cells from (x, y).
+pub(crate) fn line_sizes(cells: &[u32], width: u32, height: u32, x: u32, y: u32, n: u32) -> Line
     requires { ⌜ (width * height ≤ length (now cells)) × (x + n ≤ 4294967295) ⌝ }
-    ensures { λ r. ⌜ r ≡ length (lineAt (seen (now (cells .entry)) width height) x y n) ⌝ }
+    ensures { λ r. ⌜ (r .bytes ≡ length (lineAt (seen (now (cells .entry)) width height) x y n))
+        × (r .points ≡ length (marksAt (seen (now (cells .entry)) width height) x y n)) ⌝ }
 {
     if on_row(width, height, x, y, n) {
-        return row_bytes(row_at(cells, width, height, x, y, n));
+        return row_sizes(row_at(cells, width, height, x, y, n));
     }
     let end = line_end(cells, width, height, x, y, n);
-    marks_bytes(cells, width, height, x, y, end)
+    Line {
+        bytes: marks_bytes(cells, width, height, x, y, end),
+        points: text::wide(end),
+    }
 }
 
 // Writes n marks from (x, y), and answers the place after them.

@@ -3,6 +3,7 @@ ghost use mathlib.Core.Path.{_≡_};
 ghost use mathlib.Core.List.{map};
 ghost use Prim.Native.Nat.{_≤_, _+_, _*_, _-_};
 ghost use lib.ListN.{length};
+ghost use Rattle.rules.specs.Look.{marksIn};
 ghost use Rattle.rules.proofs.Candidate.{from, trim};
 ghost use Rattle.picture_sight.specs.Seen.{seen, leftSide, rightSide};
 use crate::look::SPACE;
@@ -10,10 +11,7 @@ use crate::look::at;
 use crate::outside::less;
 use crate::side::left_corner;
 use crate::side::right_corner;
-
-const TOP_LEFT: u32 = 0x256D;
-
-const TOP_RIGHT: u32 = 0x256E;
+use rules::Glyphs;
 
 // Where a label begins between the sides of its box, and how many cells it has there.
 pub(crate) struct Sides {
@@ -22,15 +20,23 @@ pub(crate) struct Sides {
 }
 
 // The sides of the box with the top border `top` of the column with the centre cx.
-pub(crate) fn sides_at(cells: &[u32], width: u32, height: u32, cx: u32, top: u32) -> Sides
+pub(crate) fn sides_at(
+    cells: &[u32],
+    width: u32,
+    height: u32,
+    g: Glyphs,
+    cx: u32,
+    top: u32,
+) -> Sides
     requires { ⌜ (width * height ≤ length (now cells)) × (cx ≤ 2097152) ⌝ }
-    ensures { λ r. ⌜ (r .first ≡ leftSide (seen (now (cells .entry)) width height) cx top + 2)
-        × (r .cells ≡ rightSide (seen (now (cells .entry)) width height) width cx top - leftSide (seen (now (cells .entry)) width height) cx top - 3) ⌝ }
+    ensures { λ r. ⌜ (r .first ≡ leftSide (marksIn g) (seen (now (cells .entry)) width height) cx top + 2)
+        × (r .cells ≡ rightSide (marksIn g) (seen (now (cells .entry)) width height) width cx top - leftSide (marksIn g) (seen (now (cells .entry)) width height) cx top - 3) ⌝ }
 {
-    let left = left_corner(cells, width, height, less(cx, 2), top, TOP_LEFT);
-    let right = right_corner(cells, width, height, cx + 1, top, TOP_RIGHT);
+    let left = left_corner(cells, width, height, less(cx, 2), top, g.northwest);
+    let right = right_corner(cells, width, height, cx + 1, top, g.northeast);
+    let first = left + 2;
     Sides {
-        first: left + 2,
+        first,
         cells: less(right, left + 3),
     }
 }

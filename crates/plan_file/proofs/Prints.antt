@@ -12,8 +12,9 @@ use Rattle.rules.specs.Utf8.{utf8}
 use Rattle.rules.specs.Lines.{digits, letters, bytes}
 use Rattle.rules.specs.Plan.{planOf}
 use Rattle.rules.specs.Numbers.{number, second}
-use Rattle.rules.specs.Drawing.{boxes, text}
-use Rattle.rules.specs.Answers.{done, drawing, outAfter}
+use Rattle.rules.specs.Drawing.{text}
+use Rattle.rules.specs.Look.{base}
+use Rattle.rules.specs.Answers.{done, told, drawing, outAfter}
 use Rattle.rules.specs.File.{formed, tableIn, titlesIn, fileDrawing, fileCanvasAfter, fileOutAfter, refused, treetext}
 use Rattle.rules.specs.declared.Answer.{Answer}
 use Rattle.rules.specs.declared.Drawing.{Drawing}
@@ -46,13 +47,13 @@ module _ (a : Answer) (x y : ℕ) (ex : x ≡ number a) (ey : y ≡ second a) {l
 
 -- the text of the plan in a file
 abbrev textIn : List ℕ → List ℕ
-textIn F = text length boxes (planOf (tableIn F) (titlesIn F))
+textIn F = text (base .len) (base .marks) (planOf (tableIn F) (titlesIn F))
 
 -- TRAILER changes the output as a refused drawing does, not at all
 unchosen : (b : Bool) (d : Drawing) (t old : List ℕ)
     → pick b (pick (done (d .answer)) (laid t old) old) old
     ≡ pick (done (pick b d (record { answer = Answer.Trailer; width = 0; height = 0; untitled = 0 }) .answer)) (laid t old) old
-unfolding pick done number
+unfolding pick done
 unchosen true d t old = refl
 unchosen false d t old = refl
 
@@ -63,8 +64,8 @@ module _ (F canvas out : List ℕ) (cells : length canvas ≡ 16384) (room : len
   drew = rw (cells, room) at (e .0)
 
   left : out′ ≡ pick (done (d .answer)) (laid (textIn F) out) out
-  unfolding fileOutAfter fileDrawing outAfter drawing
-  left = e .2 ∙ rw (drew, cells, room) (unchosen (formed F) (drawing length boxes (tableIn F) (titlesIn F) 16384 65536) (textIn F) out)
+  unfolding fileOutAfter fileDrawing outAfter drawing told
+  left = e .2 ∙ rw (drew, cells, room) (unchosen (formed F) (drawing base (tableIn F) (titlesIn F) 16384 65536) (textIn F) out)
 
   -- what is printed is r bytes, laid in new, and the canvas is as the file's drawing leaves it
   abbrev pub Printed : ℕ → List ℕ → Type 0

@@ -1,4 +1,4 @@
--- Every mark of 000's pictures is below 200000 hex, so that UTF-8 has bytes for it: strokes put nothing but spaces, the nine marks,
+-- Every mark of a picture is below 200000 hex, so that UTF-8 has bytes for it, if the nine marks are: strokes put nothing but spaces, these,
 -- digits and code points.
 use mathlib.Core.Path.{refl}
 use mathlib.Core.List.{List, [], _∷_, _++_, List·Memᴰ, List·Memᴰ·head, List·Memᴰ·tail, List·Memᴰ·not-nil, List·Memᴰ·append-cases, List·Memᴰ·eq-of-singleton}
@@ -14,7 +14,7 @@ use Rattle.rules.specs.Lines.{digitsIn, digits}
 use Rattle.rules.specs.Strokes.{Stroke, across, down, write, mark, over}
 use Rattle.rules.specs.Levels.{Cell, View, inRow, children}
 use Rattle.rules.specs.Measures.{linesIn, lineCount, longest, cx}
-use Rattle.rules.specs.Drawing.{boxes, boxTop, boxLeft, frame, lineOf, bendRow, axis, rowIndex, columnIndex, label, box, teeUp, straight, bends, bend, connector, strokes, picture}
+use Rattle.rules.specs.Drawing.{Marks, boxes, boxTop, boxLeft, frame, lineOf, bendRow, axis, rowIndex, columnIndex, label, box, teeUp, straight, bends, bend, connector, strokes, picture}
 use Rattle.rules.proofs.Digits.{digitsIn-small, digitsIn-more}
 use Rattle.rules.proofs.Codec.{points-small}
 
@@ -80,65 +80,91 @@ digits-low : (n k : ℕ) → List·Memᴰ k (digits n) → k < 0x200000
 unfolding digits
 digits-low n k m = digitsIn-low (suc n) n k m
 
-frame-low : (x y t n : ℕ) → Lows (frame boxes x y t n)
+-- the nine marks are such
+pub record Low-marks (marks : Marks) : Type 0 where
+  pub ─-low : marks .─ < 0x200000
+  pub │-low : marks .│ < 0x200000
+  pub ┌-low : marks .┌ < 0x200000
+  pub ╭-low : marks .╭ < 0x200000
+  pub ╮-low : marks .╮ < 0x200000
+  pub ╰-low : marks .╰ < 0x200000
+  pub ╯-low : marks .╯ < 0x200000
+  pub ┬-low : marks .┬ < 0x200000
+  pub ┴-low : marks .┴ < 0x200000
+
+-- 000's are
+pub boxes-low : Low-marks boxes
+boxes-low = record {
+  ─-low = omega arith;
+  │-low = omega arith;
+  ┌-low = omega arith;
+  ╭-low = omega arith;
+  ╮-low = omega arith;
+  ╰-low = omega arith;
+  ╯-low = omega arith;
+  ┬-low = omega arith;
+  ┴-low = omega arith;
+}
+
+frame-low : {marks : Marks} → Low-marks marks → (x y t n : ℕ) → Lows (frame marks x y t n)
 unfolding frame
-frame-low x y t n =
+frame-low low x y t n =
     (omega arith, (omega arith, (omega arith, (omega arith, (omega arith, (omega arith, (omega arith, (omega arith, tt))))))))
 
-module _ (len : List ℕ → ℕ) (v : View) where
-  box-low : (c : Cell) → Lows (box len boxes v c)
+module _ (len : List ℕ → ℕ) {marks : Marks} (low : Low-marks marks) (v : View) where
+  box-low : (c : Cell) → Lows (box len marks v c)
   unfolding box label
   box-low c =
-      lows-append (frame boxes (boxLeft len v c) (boxTop v c) (longest len c) (lineCount c)) (each (label len boxes v c) (lineCount c))
-      (frame-low (boxLeft len v c) (boxTop v c) (longest len c) (lineCount c))
-      (lows-each (label len boxes v c) (lineCount c) (λ r. (points-small (getD (linesIn c) r []), tt)))
+      lows-append (frame marks (boxLeft len v c) (boxTop v c) (longest len c) (lineCount c)) (each (label len marks v c) (lineCount c))
+      (frame-low low (boxLeft len v c) (boxTop v c) (longest len c) (lineCount c))
+      (lows-each (label len marks v c) (lineCount c) (λ r. (points-small (getD (linesIn c) r []), tt)))
 
-  straight-low : (p c : Cell) → Lows (straight len boxes v p c)
+  straight-low : (p c : Cell) → Lows (straight len marks v p c)
   unfolding straight teeUp
   straight-low p c = (omega arith, (omega arith, (omega arith, tt)))
 
-  bends-low : (b x : ℕ) (cs : List Cell) → Lows (bends len boxes v b x cs)
+  bends-low : (b x : ℕ) (cs : List Cell) → Lows (bends len marks v b x cs)
   unfolding bends teeUp
   bends-low b x [] = tt
   bends-low b x (c ∷ cs) =
-      (omega arith, (pick-low (eqb (length cs) 0) 0x256E 0x252C (omega arith) (omega arith), (omega arith, (omega arith, bends-low b (lineOf len v c) cs))))
+      (omega arith, (pick-low (eqb (length cs) 0) (marks .╮) (marks .┬) (omega arith) (omega arith), (omega arith, (omega arith, bends-low b (lineOf len v c) cs))))
 
-  bend-low : (p : Cell) (b x : ℕ) (cs : List Cell) → Lows (bend len boxes v p b x cs)
+  bend-low : (p : Cell) (b x : ℕ) (cs : List Cell) → Lows (bend len marks v p b x cs)
   unfolding bend
   bend-low p b x [] = tt
   bend-low p b x (c ∷ cs) = (omega arith, (omega arith, (omega arith, bends-low b x (c ∷ cs))))
 
-  connector-low : (p : Cell) → Lows (connector len boxes v p)
+  connector-low : (p : Cell) → Lows (connector len marks v p)
   unfolding connector
   connector-low p =
       let drawn = children v (p .row) (p .column) in
       let below = keep (λ c. eqb (c .column) (p .column)) drawn in
       let right = keep (λ c. ltb (p .column) (c .column)) drawn in
       let x = pick (eqb (length below) 0) (lineOf len v p) (cx len v (p .column)) in
-      lows-append (concat (straight len boxes v p) below) (bend len boxes v p (bendRow v (p .row)) x right)
-      (lows-concat (straight len boxes v p) below (straight-low p))
+      lows-append (concat (straight len marks v p) below) (bend len marks v p (bendRow v (p .row)) x right)
+      (lows-concat (straight len marks v p) below (straight-low p))
       (bend-low p (bendRow v (p .row)) x right)
 
-  axis-low : Lows (axis len boxes v)
+  axis-low : Lows (axis len marks v)
   unfolding axis
   axis-low = (omega arith, (omega arith, (omega arith, tt)))
 
-  strokes-low : Lows (strokes len boxes v)
+  strokes-low : Lows (strokes len marks v)
   unfolding strokes rowIndex columnIndex
   strokes-low =
-      let a = axis len boxes v in
-      let r = each (rowIndex len boxes v) (v .rows) in
-      let j = each (columnIndex len boxes v) (v .columns) in
-      let b = concat (box len boxes v) (v .cells) in
-      let n : ℕ → List Stroke = λ i. concat (connector len boxes v) (inRow (v .cells) i) in
+      let a = axis len marks v in
+      let r = each (rowIndex len marks v) (v .rows) in
+      let j = each (columnIndex len marks v) (v .columns) in
+      let b = concat (box len marks v) (v .cells) in
+      let n : ℕ → List Stroke = λ i. concat (connector len marks v) (inRow (v .cells) i) in
       lows-append (a ++ r ++ j ++ b) (each n (v .rows))
       (lows-append (a ++ r ++ j) b
       (lows-append (a ++ r) j
-      (lows-append a r axis-low (lows-each (rowIndex len boxes v) (v .rows) (λ i. (digits-low i, tt))))
-      (lows-each (columnIndex len boxes v) (v .columns) (λ i. (digits-low i, tt))))
-      (lows-concat (box len boxes v) (v .cells) box-low))
-      (lows-each n (v .rows) (λ i. lows-concat (connector len boxes v) (inRow (v .cells) i) connector-low))
+      (lows-append a r axis-low (lows-each (rowIndex len marks v) (v .rows) (λ i. (digits-low i, tt))))
+      (lows-each (columnIndex len marks v) (v .columns) (λ i. (digits-low i, tt))))
+      (lows-concat (box len marks v) (v .cells) box-low))
+      (lows-each n (v .rows) (λ i. lows-concat (connector len marks v) (inRow (v .cells) i) connector-low))
 
-  pub picture-low : (x y : ℕ) → picture len boxes v x y < 0x200000
+  pub picture-low : (x y : ℕ) → picture len marks v x y < 0x200000
   unfolding picture
-  picture-low x y = over-low (strokes len boxes v) x y 0x20 strokes-low (omega arith)
+  picture-low x y = over-low (strokes len marks v) x y 0x20 strokes-low (omega arith)

@@ -1,5 +1,6 @@
 -- Document 01, "Numbers it answers with": the order, what a drawing and a graph answer, and what they leave in the lent memory.
--- T is the table, B the title bytes; `cells` and `room` are the lengths of the lent canvas and output.
+-- Document 02: over the look (iv).
+-- T is the table, B the title bytes; `cells` and `room` are the lengths of the lent cells and output.
 use mathlib.Core.List.{List}
 use mathlib.Core.Bool.{Bool, _||_}
 use Prim.Native.Nat.{ℕ}
@@ -10,7 +11,8 @@ use Rattle.rules.specs.Plan.{Node, mostCells, planOf}
 use Rattle.rules.specs.Numbers.{number, noNode, afterCount, afterNodes}
 use Rattle.rules.specs.Levels.{view}
 use Rattle.rules.specs.Measures.{canvasWidth, canvasHeight, area}
-use Rattle.rules.specs.Drawing.{Marks, canvas, text}
+use Rattle.rules.specs.Drawing.{canvas, text}
+use Rattle.rules.specs.Look.{Look}
 use Rattle.rules.specs.Graph.{Form, graph}
 use Rattle.rules.specs.declared.Answer.{Answer}
 use Rattle.rules.specs.declared.Drawing.{Drawing}
@@ -18,6 +20,10 @@ use Rattle.rules.specs.declared.Drawing.{Drawing}
 -- 0 done
 unfoldable pub done : Answer → Bool
 done a = eqb (number a) 0
+
+-- the answers that change the lent cells: "ROOM changes the canvas as done does"
+unfoldable pub drew : Answer → Bool
+drew a = done a || eqb (number a) 9
 
 -- 7 LARGE: over 1,048,576 cells. 8 CANVAS: lent cells fewer than needed. And what comes after.
 unfoldable pub afterCells : ℕ → ℕ → Answer → Answer
@@ -34,40 +40,48 @@ inRoom room needed = pick (ltb room needed) (Answer.Room needed) (Answer.Done ne
 unfoldable pub untitled : List Node → ℕ
 untitled p = length (keep (λ n. eqb (length (n .title)) 0) p)
 
-module _ (len : List ℕ → ℕ) (marks : Marks) where
-  -- numbers 1 to 9 in this order
+-- numbers 1 to 6 in this order, and what comes after
+unfoldable pub afterPlan : List ℕ → List ℕ → Answer → Answer
+afterPlan T B next =
+    afterCount T
+    (pick (noNode T) Answer.None
+    (afterNodes T B
+    next))
+
+module _ (look : Look) where
+  open Look look using (len, marks)
+
+  -- 7, 8 and 9 after them
   unfoldable pub answer : List ℕ → List ℕ → ℕ → ℕ → Answer
   answer T B cells room =
-      afterCount T
-      (pick (noNode T) Answer.None
-      (afterNodes T B
+      afterPlan T B
       (afterCells (area len (view (planOf T B))) cells
-      (inRoom room (length (text len marks (planOf T B)))))))
+      (inRoom room (length (text len marks (planOf T B)))))
 
   -- A finished drawing also answers width, height and the number of nodes with empty titles; a refused one answers 0 for all three.
-  unfoldable pub drawing : List ℕ → List ℕ → ℕ → ℕ → Drawing
-  drawing T B cells room =
-      let a = answer T B cells room in
-      let p = planOf T B in
+  unfoldable pub told : List ℕ → List ℕ → Answer → Drawing
+  told T B a =
       record {
         answer = a;
-        width = pick (done a) (canvasWidth len (view p)) 0;
-        height = pick (done a) (canvasHeight (view p)) 0;
-        untitled = pick (done a) (untitled p) 0;
+        width = pick (done a) (canvasWidth len (view (planOf T B))) 0;
+        height = pick (done a) (canvasHeight (view (planOf T B))) 0;
+        untitled = pick (done a) (untitled (planOf T B)) 0;
       }
+
+  -- what a drawing answers
+  unfoldable pub drawing : List ℕ → List ℕ → ℕ → ℕ → Drawing
+  drawing T B cells room = told T B (answer T B cells room)
 
   -- Its first width times height canvas cells hold the code points row by row; all beyond is untouched. ROOM changes the canvas as done does.
   unfoldable pub canvasAfter : List ℕ → List ℕ → ℕ → List ℕ → List ℕ
-  canvasAfter T B room old =
-      let a = answer T B (length old) room in
-      pick (done a || eqb (number a) 9) (laid (canvas len marks (planOf T B)) old) old
+  canvasAfter T B room old = pick (drew (answer T B (length old) room)) (laid (canvas len marks (planOf T B)) old) old
 
   -- the output holds the text; all beyond is untouched. Every refusal leaves it as it was.
   unfoldable pub outAfter : List ℕ → List ℕ → ℕ → List ℕ → List ℕ
   outAfter T B cells old = pick (done (answer T B cells (length old))) (laid (text len marks (planOf T B)) old) old
 
 module _ (form : Form) where
-  -- Graphs use no canvas and never give 3, 7 or 8. (Width, height and the untitled count belong to drawings.)
+  -- Graphs use no canvas and never give 3, 7 or 8; they have no look. (Width, height and the untitled count belong to drawings.)
   unfoldable pub graphAnswer : List ℕ → List ℕ → ℕ → Answer
   graphAnswer T B room = afterCount T (afterNodes T B (inRoom room (length (graph form (planOf T B)))))
 

@@ -1,4 +1,4 @@
--- Document 01, "File and program". F is the file's bytes; `cells` and `room` are the lengths of the lent canvas and output.
+-- Document 01, "File and program", in document 01's look. F is the file's bytes; `cells` and `room` are the lengths of the lent canvas and output.
 use mathlib.Core.List.{List, [], _∷_, _++_}
 use mathlib.Core.Bool.{Bool, _&&_}
 use Prim.Native.Nat.{ℕ, _+_, _*_, _-_}
@@ -8,7 +8,8 @@ use Rattle.rules.specs.Base.{pick, each, same}
 use Rattle.rules.specs.Lines.{digits, bytes}
 use Rattle.rules.specs.Plan.{planOf}
 use Rattle.rules.specs.Numbers.{number, second}
-use Rattle.rules.specs.Drawing.{boxes, text}
+use Rattle.rules.specs.Drawing.{text}
+use Rattle.rules.specs.Look.{base}
 use Rattle.rules.specs.Answers.{done, drawing, canvasAfter, outAfter}
 use Rattle.rules.specs.declared.Answer.{Answer}
 use Rattle.rules.specs.declared.Drawing.{Drawing}
@@ -44,19 +45,19 @@ titlesIn F = take (offsetIn F) F
 -- else TRAILER, which is checked before all others (`let` keeps a broken file's table from being computed)
 unfoldable pub fileDrawing : List ℕ → ℕ → ℕ → Drawing
 fileDrawing F cells room =
-    let drawn = drawing length boxes (tableIn F) (titlesIn F) cells room in
+    let drawn = drawing base (tableIn F) (titlesIn F) cells room in
     pick (formed F) drawn (record { answer = Answer.Trailer; width = 0; height = 0; untitled = 0 })
 
 -- TRAILER changes no memory: the canvas,
 unfoldable pub fileCanvasAfter : List ℕ → ℕ → List ℕ → List ℕ
 fileCanvasAfter F room old =
-    let new = canvasAfter length boxes (tableIn F) (titlesIn F) room old in
+    let new = canvasAfter base (tableIn F) (titlesIn F) room old in
     pick (formed F) new old
 
 -- and the output
 unfoldable pub fileOutAfter : List ℕ → ℕ → List ℕ → List ℕ
 fileOutAfter F cells old =
-    let new = outAfter length boxes (tableIn F) (titlesIn F) cells old in
+    let new = outAfter base (tableIn F) (titlesIn F) cells old in
     pick (formed F) new old
 
 -- `refused`, number, second number, separated by spaces, then 0A
@@ -67,5 +68,5 @@ refused a = bytes "refused " ++ digits (number a) ++ bytes " " ++ digits (second
 unfoldable pub treetext : List ℕ → List ℕ
 treetext F =
     let a = fileDrawing F 16384 65536 .answer in
-    let drawn = text length boxes (planOf (tableIn F) (titlesIn F)) in
+    let drawn = text (base .len) (base .marks) (planOf (tableIn F) (titlesIn F)) in
     pick (done a) drawn (refused a)

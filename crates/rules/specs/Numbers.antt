@@ -11,7 +11,7 @@ use Rattle.rules.specs.declared.Answer.{Answer}
 use Rattle.rules.specs.declared.Reading.{Reading}
 
 -- the numbers of what a drawing, a graph and a file's drawing answer
-unfoldable pub number : Answer → ℕ
+abbrev pub number : Answer → ℕ
 number (Answer.Done written) = 0
 number Answer.Ragged = 1
 number Answer.Many = 2
@@ -25,7 +25,7 @@ number (Answer.Room needed) = 9
 number Answer.Trailer = 11
 
 -- and their second numbers
-unfoldable pub second : Answer → ℕ
+abbrev pub second : Answer → ℕ
 second (Answer.Done written) = written
 second Answer.Ragged = 0
 second Answer.Many = 0
@@ -39,7 +39,7 @@ second (Answer.Room needed) = needed
 second Answer.Trailer = 0
 
 -- the numbers of the picture reader's answers
-unfoldable pub readerNumber : Reading → ℕ
+abbrev pub readerNumber : Reading → ℕ
 readerNumber (Reading.Done nodes) = 0
 readerNumber Reading.Utf8 = 6
 readerNumber Reading.Large = 7
@@ -48,7 +48,7 @@ readerNumber (Reading.Room needed) = 9
 readerNumber Reading.Undrawn = 10
 
 -- and their second numbers
-unfoldable pub readerSecond : Reading → ℕ
+abbrev pub readerSecond : Reading → ℕ
 readerSecond (Reading.Done nodes) = nodes
 readerSecond Reading.Utf8 = 0
 readerSecond Reading.Large = 0

@@ -1,6 +1,9 @@
 // The limits of document 01 and the answers that all crates share. Each answer's number and second number: specs/Numbers.antt.
+mod look;
 mod numbers;
 
+pub use look::Glyphs;
+pub use look::box_marks;
 pub use numbers::done;
 pub use numbers::number;
 pub use numbers::reading_number;
@@ -28,6 +31,12 @@ pub enum Answer {
     Canvas(usize),
     Room(usize),
     Trailer,
+}
+
+// The length of a line: its bytes, as the crate counts, or its code points.
+pub enum Measure {
+    Bytes,
+    Points,
 }
 
 pub struct Drawing {

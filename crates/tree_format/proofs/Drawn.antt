@@ -1,121 +1,212 @@
--- The five ways a text drawing can end, each with its answer and its memory: refused by the table, LARGE, CANVAS, ROOM, done.
+-- The ways a drawing can end, each with its answer and its memory: refused before anything is lent, LARGE, CANVAS, painted; then ROOM or done.
 -- The rules give one answer by a chain of tests, so each way is that chain with its tests decided.
 use mathlib.Core.Path.{_≡_, refl, ap, sym, _∙_}
 use mathlib.Core.List.{List}
-use mathlib.Core.Bool.{Bool, true, false, _&&_, _||_}
-use Prim.Native.Nat.{ℕ, _≤_, _<_}
+use mathlib.Core.Bool.{Bool, true, false, _&&_, _||_, false≢true}
+use Prim.Native.Nat.{ℕ, _*_, _≤_, _<_}
 use native.Mathlib.Decide.{decLe}
 use native.Mathlib.Omega.{arith}
 use lib.Dec.{ltb, eqb}
 use lib.ListN.{length}
-use borrow.Author.Tests.{lt-ltb, le-ltb}
+use borrow.Author.Tests.{lt-ltb, le-ltb, eqb-true, ltb-false, ne-eqb}
+use Rattle.rules.specs.Look.{Look}
 use Rattle.rules.specs.Base.{pick, laid}
-use Rattle.rules.specs.Plan.{mostCells, planOf}
-use Rattle.rules.specs.Numbers.{number, ragged, many, noNode, firstSuch, afterCount, afterNodes}
+use Rattle.rules.specs.Plan.{Node, mostCells, planOf}
+use Rattle.rules.specs.Numbers.{number}
 use Rattle.rules.specs.Levels.{view}
 use Rattle.rules.specs.Measures.{canvasWidth, canvasHeight, area}
-use Rattle.rules.specs.Drawing.{boxes, canvas, text}
-use Rattle.rules.specs.Answers.{done, afterCells, inRoom, untitled, answer, drawing, canvasAfter, outAfter}
+use Rattle.rules.specs.Drawing.{Marks, canvas, text}
+use Rattle.rules.specs.Answers.{done, drew, afterCells, inRoom, untitled, afterPlan, answer, told as tellOf, drawing, canvasAfter, outAfter}
 use Rattle.rules.specs.declared.Answer.{Answer}
 use Rattle.rules.specs.declared.Drawing.{Drawing}
-use Rattle.levels.specs.Accepted.{checked}
-use Rattle.levels.proofs.Accepted.{checked-next, checked-stops}
-use Rattle.tree_format.specs.Drawn.{Drawn, nothing, Written}
+use Rattle.rules.proofs.Gates.{Early, Gate, lets, stops, gate-plan}
+use Rattle.levels.specs.Accepted.{Accepted, checked}
+use Rattle.levels.proofs.Accepted.{refused, checked-accepted, checked-next, checked-stops}
+use Rattle.tree_format.specs.Drawn.{nothing, Written, cellsAnswer, sizes, Fills, paintAnswer, painting, paintAfter}
 
 -- the last step, as its two ends show it
-pub told : {t out : List ℕ} {w h u need : ℕ} {r : Drawing} → need ≡ length t → length out < need → r ≡ nothing (Answer.Room need) → Written t out w h u r out
-told e l q = record { short = λ s. (q ∙ ap (λ n. nothing (Answer.Room n)) e, refl); enough = λ s. absurd (omega arith) }
+pub short-of : {t out : List ℕ} {w h u need : ℕ} {r : Drawing} → need ≡ length t → length out < need → r ≡ nothing (Answer.Room need) → Written t out w h u r out
+short-of e l q = record { short = λ s. (q ∙ ap (λ n. nothing (Answer.Room n)) e, refl); enough = λ s. absurd (omega arith) }
 
-pub stored : {t out out′ : List ℕ} {w h u w′ h′ u′ need n : ℕ} → need ≡ length t → need ≤ length out → n ≡ length t → w′ ≡ w → h′ ≡ h → u′ ≡ u
-    → out′ ≡ laid t out → Written t out w h u (record { answer = Answer.Done n; width = w′; height = h′; untitled = u′ }) out′
-stored e l n a b c o = record { short = λ s. absurd (omega arith); enough = λ s. (rw (n, a, b, c), o) }
+pub stored : {t out out′ : List ℕ} {w h u need n : ℕ} → need ≡ length t → need ≤ length out → n ≡ length t
+    → out′ ≡ laid t out → Written t out w h u (record { answer = Answer.Done n; width = w; height = h; untitled = u }) out′
+stored e l n o = record { short = λ s. absurd (omega arith); enough = λ s. (rw n, o) }
 
--- an answer that is neither done nor ROOM leaves all memory as it was
-untouched : (T B canvas out : List ℕ) (a : Answer) → answer length boxes T B (length canvas) (length out) ≡ a → done a ≡ false → eqb (number a) 9 ≡ false
-    → Drawn T B canvas out (nothing a) canvas out
-unfolding drawing canvasAfter outAfter pick
-untouched T B canvas out a e d n = record {
-  answered = rw (e, d);
-  canvas-left = rw (e, d, n);
-  out-left = rw (e, d);
-}
+-- 7, 8, or the picture
+module _ (len : List ℕ → ℕ) (marks : Marks) (p : List Node) (old : List ℕ) where
+  pub fills-large : mostCells < area len (view p) → Fills len marks p old (nothing Answer.Large) old
+  unfolding afterCells pick done
+  fills-large h = record { answered = rw (lt-ltb mostCells (area len (view p)) h); left = rw (lt-ltb mostCells (area len (view p)) h) }
 
--- what is checked first is no ROOM
-not-room : (T B : List ℕ) → eqb (number (checked true T B)) 9 ≡ false
-unfolding checked afterCount afterNodes firstSuch number
-not-room T B =
-    either (ragged T) _ _ refl
-    (either (many T) _ _ refl
-    (either (true && noNode T) _ _ refl
-    (either _ _ _ refl
-    (either _ _ _ refl
-    (either _ _ _ refl
-    refl)))))
-  where
-    either : (b : Bool) (x y : Answer) → eqb (number x) 9 ≡ false → eqb (number y) 9 ≡ false → eqb (number (pick b x y)) 9 ≡ false
-    either true x y e f = unfold pick in e
-    either false x y e f = unfold pick in f
+  pub fills-canvas : area len (view p) ≤ mostCells → length old < area len (view p) → Fills len marks p old (nothing (Answer.Canvas (area len (view p)))) old
+  unfolding afterCells pick done
+  fills-canvas l h = record {
+    answered = rw (le-ltb mostCells (area len (view p)) l, lt-ltb (length old) (area len (view p)) h);
+    left = rw (le-ltb mostCells (area len (view p)) l, lt-ltb (length old) (area len (view p)) h);
+  }
 
-pub refused : (T B canvas out : List ℕ) → done (checked true T B) ≡ false → Drawn T B canvas out (nothing (checked true T B)) canvas out
-unfolding answer
-refused T B canvas out h =
-    untouched T B canvas out (checked true T B)
-    (checked-stops true T B (afterCells (area length (view (planOf T B))) (length canvas) (inRoom (length out) (length (text length boxes (planOf T B))))) h)
-    h (not-room T B)
+  pub fills-done : area len (view p) ≤ mostCells → area len (view p) ≤ length old
+      → Fills len marks p old (record { answer = Answer.Done 0; width = canvasWidth len (view p); height = canvasHeight (view p); untitled = untitled p }) (laid (canvas len marks p) old)
+  unfolding afterCells pick done
+  fills-done l h = record {
+    answered = rw (le-ltb mostCells (area len (view p)) l, le-ltb (length old) (area len (view p)) h);
+    left = rw (le-ltb mostCells (area len (view p)) l, le-ltb (length old) (area len (view p)) h);
+  }
 
-module _ (T B canvas₀ out : List ℕ) (ok : done (checked true T B) ≡ true) where
-  -- what is needed: cells, and bytes
+-- the refusals that come before are those of `levels::first_refusal`
+plan-refused : (T B : List ℕ) (next : Answer) → afterPlan T B next ≡ refused true T B next
+unfolding afterPlan
+plan-refused T B next = refl
+
+module _ (look : Look) (T B : List ℕ) (old : List ℕ) where
+  open Look look using (len, marks)
+
+  -- past them the picture decides,
+  pub paint-passed : {r : Drawing} {new : List ℕ} → done (checked true T B) ≡ true → Fills len marks (planOf T B) old r new
+      → (r ≡ painting look T B (length old)) × (new ≡ paintAfter look T B old)
+  unfolding painting paintAfter paintAnswer tellOf
+  paint-passed ok q =
+      let e = plan-refused T B (cellsAnswer len (planOf T B) (length old)) ∙ checked-next true T B (cellsAnswer len (planOf T B) (length old)) ok in
+      (q .answered ∙ rw e, q .left ∙ rw e)
+
+  -- or one of them is the answer
+  pub paint-refused : {a : Answer} → a ≡ checked true T B → done a ≡ false
+      → (nothing a ≡ painting look T B (length old)) × (old ≡ paintAfter look T B old)
+  unfolding painting paintAfter paintAnswer tellOf pick
+  paint-refused {a} q h =
+      let e : afterPlan T B (cellsAnswer len (planOf T B) (length old)) ≡ a =
+      plan-refused T B (cellsAnswer len (planOf T B) (length old))
+      ∙ checked-stops true T B (cellsAnswer len (planOf T B) (length old)) (ap done (sym q) ∙ h) ∙ sym q in
+      (rw (e, h), rw (e, h))
+
+-- after the picture the text, over any tests
+module _ (look : Look) (T B : List ℕ) where
+  open Look look using (len, marks)
+
+  abbrev p : List Node
+  p = planOf T B
+
   abbrev needed : ℕ
-  needed = area length (view (planOf T B))
+  needed = area len (view p)
 
   abbrev bytes : ℕ
-  bytes = length (text length boxes (planOf T B))
+  bytes = length (text len marks p)
 
-  past : answer length boxes T B (length canvas₀) (length out) ≡ afterCells needed (length canvas₀) (inRoom (length out) bytes)
-  unfolding answer
-  past = checked-next true T B (afterCells needed (length canvas₀) (inRoom (length out) bytes)) ok
+  -- the picture is painted: nothing was refused, and the cells suffice
+  pub record Painted (cells : ℕ) : Type 0 where
+    pub lets-all : (next : Answer) → afterPlan T B next ≡ next
+    pub few : needed ≤ mostCells
+    pub enough : needed ≤ cells
 
-  pub large : mostCells < needed → Drawn T B canvas₀ out (nothing Answer.Large) canvas₀ out
-  unfolding afterCells pick done number
-  large h = untouched T B canvas₀ out Answer.Large (past ∙ rw (lt-ltb mostCells needed h)) refl refl
+  by-cells : (cells : ℕ) (b c : Bool) → ltb mostCells needed ≡ b → ltb cells needed ≡ c → done (cellsAnswer len p cells) ≡ true → (needed ≤ mostCells) × (needed ≤ cells)
+  unfolding afterCells pick done
+  by-cells cells true c e f h = absurd (false≢true (rw e at h))
+  by-cells cells false true e f h = absurd (false≢true (rw (e, f) at h))
+  by-cells cells false false e f h = (ltb-false mostCells needed e, ltb-false cells needed f)
 
-  pub short-canvas : needed ≤ mostCells → length canvas₀ < needed → Drawn T B canvas₀ out (nothing (Answer.Canvas needed)) canvas₀ out
-  unfolding afterCells pick done number
-  short-canvas l h =
-      untouched T B canvas₀ out (Answer.Canvas needed) (past ∙ rw (le-ltb mostCells needed l, lt-ltb (length canvas₀) needed h)) refl refl
+  painted : (cells : ℕ) → Gate (afterPlan T B) → done (paintAnswer look T B cells) ≡ true → Painted cells
+  unfolding paintAnswer
+  painted cells (lets g) h =
+      let q = by-cells cells (ltb mostCells needed) (ltb cells needed) refl refl (ap done (sym (g (cellsAnswer len p cells))) ∙ h) in
+      record { lets-all = g; few = q .0; enough = q .1 }
+  painted cells (stops a e g) h =
+      absurd (e .not-done (eqb-true (number a) 0 (unfold done in ap done (sym (g (cellsAnswer len p cells))) ∙ h)))
 
-  pub short-room : needed ≤ mostCells → needed ≤ length canvas₀ → length out < bytes
-      → Drawn T B canvas₀ out (nothing (Answer.Room bytes)) (laid (canvas length boxes (planOf T B)) canvas₀) out
-  unfolding afterCells inRoom drawing canvasAfter outAfter pick done number
-  short-room l m h =
-      let e : answer length boxes T B (length canvas₀) (length out) ≡ Answer.Room bytes =
-      past ∙ rw (le-ltb mostCells needed l, le-ltb (length canvas₀) needed m, lt-ltb (length out) bytes h) in
-      record { answered = rw e; canvas-left = rw e; out-left = rw e }
+  pub was-painted : (cells : ℕ) → done (paintAnswer look T B cells) ≡ true → Painted cells
+  was-painted cells h = painted cells (gate-plan T B) h
 
-  pub finished : needed ≤ mostCells → needed ≤ length canvas₀ → bytes ≤ length out
-      → Drawn T B canvas₀ out
-      (record {
-        answer = Answer.Done bytes;
-        width = canvasWidth length (view (planOf T B));
-        height = canvasHeight (view (planOf T B));
-        untitled = untitled (planOf T B);
-      })
-      (laid (canvas length boxes (planOf T B)) canvas₀)
-      (laid (text length boxes (planOf T B)) out)
-  unfolding afterCells inRoom drawing canvasAfter outAfter pick done number
-  finished l m h =
-      let e : answer length boxes T B (length canvas₀) (length out) ≡ Answer.Done bytes =
-      past ∙ rw (le-ltb mostCells needed l, le-ltb (length canvas₀) needed m, le-ltb (length out) bytes h) in
-      record { answered = rw e; canvas-left = rw e; out-left = rw e }
+  pub painted-fits : (cells : ℕ) → done (paintAnswer look T B cells) ≡ true → (needed ≤ mostCells) × (needed ≤ cells)
+  painted-fits cells h = let q = was-painted cells h in (q .few, q .enough)
 
-  -- the last step decides between the two
-  pub last-step : (r : Drawing) (cells out′ : List ℕ) → needed ≤ mostCells → needed ≤ length canvas₀ → cells ≡ laid (canvas length boxes (planOf T B)) canvas₀
-      → Written (text length boxes (planOf T B)) out (canvasWidth length (view (planOf T B))) (canvasHeight (view (planOf T B))) (untitled (planOf T B)) r out′
-      → Drawn T B canvas₀ out r cells out′
-  last-step r cells out′ l m e w =
+  -- then ROOM or done
+  past : (cells room : ℕ) → Painted cells → answer look T B cells room ≡ inRoom room bytes
+  unfolding answer afterCells pick
+  past cells room q = q .lets-all _ ∙ rw (le-ltb mostCells needed (q .few), le-ltb cells needed (q .enough))
+
+  -- what the three equations of a drawing say
+  pub record Drawn (canvas₀ out : List ℕ) (r : Drawing) (canvas′ out′ : List ℕ) : Type 0 where
+    pub answered : r ≡ drawing look T B (length canvas₀) (length out)
+    pub canvas-left : canvas′ ≡ canvasAfter look T B (length out) canvas₀
+    pub out-left : out′ ≡ outAfter look T B (length canvas₀) out
+
+  pub last-step : {canvas₀ out cells out′ : List ℕ} {r : Drawing} → done (paintAnswer look T B (length canvas₀)) ≡ true
+      → cells ≡ laid (canvas len marks p) canvas₀
+      → Written (text len marks p) out (canvasWidth len (view p)) (canvasHeight (view p)) (untitled (planOf T B)) r out′
+      → Drawn canvas₀ out r cells out′
+  unfolding inRoom drawing tellOf canvasAfter outAfter drew pick done
+  last-step {canvas₀} {out} ok e w =
+      let q = was-painted (length canvas₀) ok in
       elim (decLe bytes (length out)) [
-        | yes h ↦ rw (e, w .enough h .0, w .enough h .1) (finished l m h)
+        | yes h ↦
+            (let a : answer look T B (length canvas₀) (length out) ≡ Answer.Done bytes = past (length canvas₀) (length out) q ∙ rw (le-ltb (length out) bytes h) in
+            record { answered = w .enough h .0 ∙ rw a; canvas-left = e ∙ rw a; out-left = w .enough h .1 ∙ rw a })
         | no h ↦
             (let k : length out < bytes = omega arith in
-            rw (e, w .short k .0, w .short k .1) (short-room l m k))
+            let a : answer look T B (length canvas₀) (length out) ≡ Answer.Room bytes = past (length canvas₀) (length out) q ∙ rw (lt-ltb (length out) bytes k) in
+            record { answered = w .short k .0 ∙ rw a; canvas-left = e ∙ rw a; out-left = w .short k .1 ∙ rw a })
       ]
+
+  -- a picture that is not painted is a drawing that is refused, whatever the output is
+  record Stopped (cells room : ℕ) (a : Answer) : Type 0 where
+    same : answer look T B cells room ≡ a
+    not-room : eqb (number a) 9 ≡ false
+
+  by-tests : (cells room : ℕ) (b c : Bool) → ltb mostCells needed ≡ b → ltb cells needed ≡ c → done (cellsAnswer len p cells) ≡ false
+      → (afterCells needed cells (inRoom room bytes) ≡ cellsAnswer len p cells) × (eqb (number (cellsAnswer len p cells)) 9 ≡ false)
+  unfolding afterCells pick done
+  by-tests cells room true c e f h = rw e (refl, refl)
+  by-tests cells room false true e f h = rw (e, f) (refl, refl)
+  by-tests cells room false false e f h = absurd (false≢true (sym (rw (e, f) at h)))
+
+  stopped : (cells room : ℕ) → Gate (afterPlan T B) → done (paintAnswer look T B cells) ≡ false → Stopped cells room (paintAnswer look T B cells)
+  unfolding answer paintAnswer
+  stopped cells room (lets g) h =
+      let i = g (cellsAnswer len p cells) in
+      let q = by-tests cells room (ltb mostCells needed) (ltb cells needed) refl refl (ap done (sym i) ∙ h) in
+      record { same = g _ ∙ q .0 ∙ sym i; not-room = ap (λ (a : Answer). eqb (number a) 9) i ∙ q .1 }
+  stopped cells room (stops a e g) h =
+      let i = g (cellsAnswer len p cells) in
+      record { same = g _ ∙ sym i; not-room = ap (λ (a : Answer). eqb (number a) 9) i ∙ ne-eqb (number a) 9 (e .not-room) }
+
+  pub not-painted : (canvas₀ out : List ℕ) → done (paintAnswer look T B (length canvas₀)) ≡ false
+      → Drawn canvas₀ out (painting look T B (length canvas₀)) canvas₀ out
+  unfolding painting drawing tellOf canvasAfter outAfter drew pick
+  not-painted canvas₀ out h =
+      let q = stopped (length canvas₀) (length out) (gate-plan T B) h in
+      record {
+        answered = rw (q .same);
+        canvas-left = rw (q .same, h, q .not-room);
+        out-left = rw (q .same, h);
+      }
+
+  -- what the answer of the picture tells
+  pub paint-said : (cells : ℕ) {r : Drawing} {b v : Bool} → r ≡ painting look T B cells → b ≡ done (r .answer) → b ≡ v → done (paintAnswer look T B cells) ≡ v
+  unfolding painting tellOf
+  paint-said cells e d h = ap (λ (r : Drawing). done (r .answer)) (sym e) ∙ sym d ∙ h
+
+  pub record Left (old : List ℕ) (r : Drawing) (new : List ℕ) : Type 0 where
+    pub width-is : r .width ≡ canvasWidth len (view p)
+    pub height-is : r .height ≡ canvasHeight (view p)
+    pub untitled-is : r .untitled ≡ untitled (planOf T B)
+    pub cells-are : new ≡ laid (canvas len marks p) old
+
+  pub painted-left : (old : List ℕ) {new : List ℕ} {r : Drawing} → done (paintAnswer look T B (length old)) ≡ true → r ≡ painting look T B (length old)
+      → new ≡ paintAfter look T B old → Left old r new
+  unfolding painting paintAfter tellOf pick
+  painted-left old ok e f = record {
+    width-is = ap (λ (r : Drawing). r .width) e ∙ rw ok;
+    height-is = ap (λ (r : Drawing). r .height) e ∙ rw ok;
+    untitled-is = ap (λ (r : Drawing). r .untitled) e ∙ rw ok;
+    cells-are = f ∙ rw ok;
+  }
+
+  pub unpainted-left : (old : List ℕ) {new : List ℕ} → done (paintAnswer look T B (length old)) ≡ false → new ≡ paintAfter look T B old → new ≡ old
+  unfolding paintAfter pick
+  unpainted-left old h f = f ∙ rw h
+
+-- a plan that was painted is one that no refusal meets
+pub painted-accepted : (look : Look) (T B : List ℕ) (cells : ℕ) → done (paintAnswer look T B cells) ≡ true → Accepted T B
+unfolding done checked
+painted-accepted look T B cells ok =
+    let q = was-painted look T B cells ok in
+    checked-accepted true T B (ap done (sym (plan-refused T B (Answer.Done 0)) ∙ q .lets-all (Answer.Done 0)))

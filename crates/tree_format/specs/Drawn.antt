@@ -1,19 +1,48 @@
--- The three equations of the text drawing: what it answers, and what it leaves on the lent canvas and in the lent output.
+-- The steps of the text drawing: the picture on the lent canvas with its size, and the text in the lent output.
 use mathlib.Core.Path.{_≡_}
 use mathlib.Core.List.{List}
 use Prim.Native.Nat.{ℕ, _≤_, _<_}
 use lib.ListN.{length}
-use Rattle.rules.specs.Base.{laid}
-use Rattle.rules.specs.Drawing.{boxes}
-use Rattle.rules.specs.Answers.{drawing, canvasAfter, outAfter}
+use Rattle.rules.specs.Base.{pick, laid}
+use Rattle.rules.specs.Plan.{Node, planOf}
+use Rattle.rules.specs.Levels.{view}
+use Rattle.rules.specs.Measures.{canvasWidth, canvasHeight, area}
+use Rattle.rules.specs.Drawing.{Marks, canvas}
+use Rattle.rules.specs.Look.{Look}
+use Rattle.rules.specs.Answers.{done, untitled, afterCells, afterPlan, told}
 use Rattle.rules.specs.declared.Answer.{Answer}
 use Rattle.rules.specs.declared.Drawing.{Drawing}
 
--- T is the table, B the title bytes; canvas and out before, and canvas′ and out′ after
-pub record Drawn (T B canvas out : List ℕ) (r : Drawing) (canvas′ out′ : List ℕ) : Type 0 where
-  pub answered : r ≡ drawing length boxes T B (length canvas) (length out)
-  pub canvas-left : canvas′ ≡ canvasAfter length boxes T B (length out) canvas
-  pub out-left : out′ ≡ outAfter length boxes T B (length canvas) out
+-- what is answered by one that paints the canvas and writes no text: refusals 1 to 8, or Done with no bytes;
+module _ (look : Look) (T B : List ℕ) where
+  open Look look using (len, marks)
+
+  unfoldable pub paintAnswer : (cells : ℕ) → Answer
+  paintAnswer cells = afterPlan T B (afterCells (area len (view (planOf T B))) cells (Answer.Done 0))
+
+  -- with the size and the untitled count, as a drawing tells them;
+  unfoldable pub painting : (cells : ℕ) → Drawing
+  painting cells = told look T B (paintAnswer cells)
+
+  -- and the canvas is changed by Done alone: it holds what a drawing leaves on it
+  unfoldable pub paintAfter : (old : List ℕ) → List ℕ
+  paintAfter old = pick (done (paintAnswer (length old))) (laid (canvas len marks (planOf T B)) old) old
+
+-- the same of a plan p that no refusal before 7 meets
+abbrev pub cellsAnswer : (len : List ℕ → ℕ) → List Node → (cells : ℕ) → Answer
+cellsAnswer len p cells = afterCells (area len (view p)) cells (Answer.Done 0)
+
+abbrev pub sizes : (len : List ℕ → ℕ) → List Node → Answer → Drawing
+sizes len p a = record {
+  answer = a;
+  width = pick (done a) (canvasWidth len (view p)) 0;
+  height = pick (done a) (canvasHeight (view p)) 0;
+  untitled = pick (done a) (untitled p) 0;
+}
+
+pub record Fills (len : List ℕ → ℕ) (marks : Marks) (p : List Node) (old : List ℕ) (r : Drawing) (new : List ℕ) : Type 0 where
+  pub answered : r ≡ sizes len p (cellsAnswer len p (length old))
+  pub left : new ≡ pick (done (cellsAnswer len p (length old))) (laid (canvas len marks p) old) old
 
 -- an answer without a drawing
 abbrev pub nothing : Answer → Drawing

@@ -4,11 +4,13 @@ ghost use Prim.Native.Nat.{ℕ, _*_, _≤_, _<_};
 ghost use lib.ListN.{length, getD};
 ghost use Rattle.rules.specs.Base.{concat};
 ghost use Rattle.rules.specs.Plan.{count, planOf};
+ghost use Rattle.rules.specs.Look.{lenOf, marksIn};
 ghost use Rattle.rules.specs.Levels.{cellAt, view};
-ghost use Rattle.rules.specs.Drawing.{boxes, box};
+ghost use Rattle.rules.specs.Drawing.{box};
 ghost use Rattle.canvas.specs.Stroked.{stroked};
 ghost use Rattle.levels.specs.Accepted.{Accepted};
 ghost use Rattle.tree_format.specs.Placed.{Placed};
+use crate::style::Style;
 use canvas::Size;
 
 // The box of node k, if it has a cell.
@@ -18,16 +20,17 @@ fn label(
     table: &[u32],
     k: usize,
     titles: &[u8],
+    style: Style,
     cy: &[u32; 32],
     middle: u32,
     lines: u32,
     longest: u32,
 )
     requires { ⌜ (size .width * size .height ≤ length (now cells)) × Accepted (now table) (now titles) × (k < count (now table)) ⌝ }
-    requires { ⌜ Placed (planOf (now table) (now titles)) k (now cy) middle lines longest ⌝ }
+    requires { ⌜ Placed (lenOf (style .measure)) (planOf (now table) (now titles)) k (now cy) middle lines longest ⌝ }
     ensures { λ _. ⌜ now (cells .exit)
         ≡ stroked (size .width) (size .height)
-        (concat (box length boxes (view (planOf (now (table .entry)) (now (titles .entry))))) (cellAt (planOf (now (table .entry)) (now (titles .entry))) k))
+        (concat (box (lenOf (style .measure)) (marksIn (style .marks)) (view (planOf (now (table .entry)) (now (titles .entry))))) (cellAt (planOf (now (table .entry)) (now (titles .entry))) k))
         (now (cells .entry)) ⌝ }
 {
     if lines == 0 {
@@ -35,7 +38,7 @@ fn label(
     }
     let y = cy[text::wide(table[3 * k])];
     let title = levels::title(table, k, titles);
-    canvas::draw_label_centered(cells, size, middle, y, title, lines, longest);
+    canvas::draw_label_centered(cells, size, middle, y, title, lines, longest, style.marks);
 }
 
 // The boxes of all cells, in the table's order.
@@ -45,16 +48,17 @@ pub(crate) fn labels(
     table: &[u32],
     nodes: usize,
     titles: &[u8],
+    style: Style,
     cy: &[u32; 32],
     middle: &[u32; 256],
     lines: &[u32; 256],
     longest: &[u32; 256],
 )
     requires { ⌜ (size .width * size .height ≤ length (now cells)) × Accepted (now table) (now titles) × (nodes ≡ count (now table)) ⌝ }
-    requires { ⌜ ((k : ℕ) → k < nodes → Placed (planOf (now table) (now titles)) k (now cy) (getD (now middle) k 0) (getD (now lines) k 0) (getD (now longest) k 0)) ⌝ }
+    requires { ⌜ ((k : ℕ) → k < nodes → Placed (lenOf (style .measure)) (planOf (now table) (now titles)) k (now cy) (getD (now middle) k 0) (getD (now lines) k 0) (getD (now longest) k 0)) ⌝ }
     ensures { λ _. ⌜ now (cells .exit)
         ≡ stroked (size .width) (size .height)
-        (concat (box length boxes (view (planOf (now (table .entry)) (now (titles .entry))))) (view (planOf (now (table .entry)) (now (titles .entry))) .cells))
+        (concat (box (lenOf (style .measure)) (marksIn (style .marks)) (view (planOf (now (table .entry)) (now (titles .entry))))) (view (planOf (now (table .entry)) (now (titles .entry))) .cells))
         (now (cells .entry)) ⌝ }
 {
     let mut k = 0;
@@ -65,6 +69,7 @@ pub(crate) fn labels(
             table,
             k,
             titles,
+            style,
             cy,
             middle[k],
             lines[k],

@@ -15,7 +15,7 @@ use Rattle.levels.specs.Accepted.{Accepted}
 use Rattle.levels.specs.Filled.{filled}
 use Rattle.levels.proofs.Plans.{columns-bytes, rows-bytes}
 use Rattle.tree_view.specs.declared.heights.Rows.{Rows}
-use Rattle.tree_view.specs.Measured.{linesAt, longestAt}
+use Rattle.tree_view.specs.Measured.{Short, linesAt, longestAt}
 use Rattle.tree_view.specs.Sizes.{Wide, High, widthIn, offsetIn, centreIn, rowsIn, sumAt, middleAt}
 use Rattle.tree_view.specs.Ruled.{RuledColumns, ruledRows}
 use Rattle.tree_view.proofs.Laid.{at-whole}
@@ -41,23 +41,23 @@ module _ {T B : List ℕ} (a : Accepted T B) (nodes : ℕ) (all : nodes ≡ coun
   digits-ruled n r e q = q ∙ rw e
 
   -- of `tree_columns`
-  module _ (column longest old old′ : List ℕ) (placed : column ≡ filled (columnAt (planOf T [])) 0 nodes old) (long : length old ≡ 256)
-      (sized : longest ≡ filled (longestAt (planOf T B)) 0 nodes old′) (long′ : length old′ ≡ 256) where
+  module _ (len : List ℕ → ℕ) (short : Short len) (column longest old old′ : List ℕ) (placed : column ≡ filled (columnAt (planOf T [])) 0 nodes old) (long : length old ≡ 256)
+      (sized : longest ≡ filled (longestAt len (planOf T B)) 0 nodes old′) (long′ : length old′ ≡ 256) where
     column-of : (k : ℕ) → k < nodes → getD column k 0 ≡ columnAt (planOf T B) k
     column-of k h = column-at a column old (rw all at placed) long k (omega arith)
 
-    longest-of : (k : ℕ) → k < nodes → getD longest k 0 ≡ longestAt (planOf T B) k
-    longest-of k h = size-at a (longestAt (planOf T B)) longest old′ (rw all at sized) long′ k (omega arith)
+    longest-of : (k : ℕ) → k < nodes → getD longest k 0 ≡ longestAt len (planOf T B) k
+    longest-of k h = size-at a (longestAt len (planOf T B)) longest old′ (rw all at sized) long′ k (omega arith)
 
     pub columns-ask : Wide column longest nodes
-    columns-ask = rw all (wide a column longest (λ k h. column-of k (omega arith)) (λ k h. longest-of k (omega arith)))
+    columns-ask = rw all (wide a len short column longest (λ k h. column-of k (omega arith)) (λ k h. longest-of k (omega arith)))
 
     pub columns-answer : (n start : ℕ) (xs ws cs : List ℕ) → n ≡ view (planOf T B) .columns → start ≡ d (view (planOf T B)) + 4
         → xs ≡ filled (offsetIn column longest nodes start) 0 n (replicate 256 0)
         → ws ≡ filled (widthIn column longest nodes) 0 256 (replicate 256 6)
         → cs ≡ filled (centreIn column longest nodes start) 0 n (replicate 256 0)
-        → RuledColumns (view (planOf T B)) n xs ws cs
-    columns-answer = columns-ruled (planOf T B) nodes (all ∙ sym (length-plan T B)) column longest column-of longest-of
+        → RuledColumns len (view (planOf T B)) n xs ws cs
+    columns-answer = columns-ruled (planOf T B) nodes (all ∙ sym (length-plan T B)) len column longest column-of longest-of
 
   -- of `tree_rows`
   module _ (lines old : List ℕ) (sized : lines ≡ filled (linesAt (planOf T B)) 0 nodes old) (long : length old ≡ 256) where
@@ -80,8 +80,8 @@ module _ {T B : List ℕ} (a : Accepted T B) (nodes : ℕ) (all : nodes ≡ coun
     columns-some : 0 < nodes → 0 < n
     columns-some h = omega (arith, column-below (planOf T B) 0 (omega (arith, length-plan T B)), view-columns (planOf T B))
 
-  module _ {n : ℕ} {xs ws cs : List ℕ} (r : RuledColumns (view (planOf T B)) n xs ws cs) where
-    end-of : 0 < nodes → sumAt xs ws (n - 1) ≡ canvasWidth length (view (planOf T B)) + 1
+  module _ (len : List ℕ → ℕ) (short : Short len) {n : ℕ} {xs ws cs : List ℕ} (r : RuledColumns len (view (planOf T B)) n xs ws cs) where
+    end-of : 0 < nodes → sumAt xs ws (n - 1) ≡ canvasWidth len (view (planOf T B)) + 1
     end-of h =
         rw (r .counted)
         (columns-end (view (planOf T B)) r (columns-le (planOf T B) (small a)) (omega (arith, r .counted, columns-some n (r .counted) h)))
@@ -96,20 +96,20 @@ module _ {T B : List ℕ} (a : Accepted T B) (nodes : ℕ) (all : nodes ≡ coun
             omega (
               arith,
               column-width-at (view (planOf T B)) r (columns-le (planOf T B) (small a)) (n - 1) (omega (arith, some, few)),
-              width-ge (planOf T B) (n - 1),
+              width-ge len (planOf T B) (n - 1),
             ),
           ),
-          omega (arith, end-of h, canvas-width-le (planOf T B) (small a)),
+          omega (arith, end-of h, canvas-width-le len short (planOf T B) (small a)),
         )
 
-    pub width-answers : (r : ℕ) → 0 < nodes → r ≡ sumAt xs ws (n - 1) - 1 → r ≡ canvasWidth length (view (planOf T B))
+    pub width-answers : (r : ℕ) → 0 < nodes → r ≡ sumAt xs ws (n - 1) - 1 → r ≡ canvasWidth len (view (planOf T B))
     width-answers r h e = omega (arith, end-of h)
 
   -- cx by entries; and the nodes' middles
-  module _ (n : ℕ) (counted : n ≡ view (planOf T B) .columns) (centres old : List ℕ)
-      (made : centres ≡ filled (cx length (view (planOf T B))) 0 n old) (long : length old ≡ 256) where
-    pub center-at : (j : ℕ) → j < n → getD centres j 0 ≡ cx length (view (planOf T B)) j
-    center-at j h = at-whole (cx length (view (planOf T B))) n j centres old made (omega (arith, columns-small n counted)) h
+  module _ (len : List ℕ → ℕ) (n : ℕ) (counted : n ≡ view (planOf T B) .columns) (centres old : List ℕ)
+      (made : centres ≡ filled (cx len (view (planOf T B))) 0 n old) (long : length old ≡ 256) where
+    pub center-at : (j : ℕ) → j < n → getD centres j 0 ≡ cx len (view (planOf T B)) j
+    center-at j h = at-whole (cx len (view (planOf T B))) n j centres old made (omega (arith, columns-small n counted)) h
 
     module _ (column : List ℕ) (placed : (k : ℕ) → k < nodes → getD column k 0 ≡ columnAt (planOf T B) k) where
       pub middles-ask : (k : ℕ) → k < nodes → getD column k 0 < 256
@@ -117,10 +117,10 @@ module _ {T B : List ℕ} (a : Accepted T B) (nodes : ℕ) (all : nodes ≡ coun
           omega (arith, placed k h, column-below (planOf T B) k (omega (arith, length-plan T B)), view-columns (planOf T B), columns-le (planOf T B) (small a))
 
       pub middles-answer : (middle old′ : List ℕ) → middle ≡ filled (middleAt column centres) 0 nodes old′ → length old′ ≡ 256
-          → (k : ℕ) → k < nodes → getD middle k 0 ≡ cx length (view (planOf T B)) (columnAt (planOf T B) k)
+          → (k : ℕ) → k < nodes → getD middle k 0 ≡ cx len (view (planOf T B)) (columnAt (planOf T B) k)
       middles-answer middle old′ e l k h =
-          at-whole (λ k. cx length (view (planOf T B)) (columnAt (planOf T B) k)) nodes k middle old′
-          (e ∙ middles-ruled (planOf T B) nodes (all ∙ sym (length-plan T B)) column centres old′ placed (λ j b. center-at j (omega arith)))
+          at-whole (λ k. cx len (view (planOf T B)) (columnAt (planOf T B) k)) nodes k middle old′
+          (e ∙ middles-ruled (planOf T B) nodes (all ∙ sym (length-plan T B)) len column centres old′ placed (λ j b. center-at j (omega arith)))
           (omega (arith, a .few)) h
 
   -- and the rows

@@ -76,7 +76,7 @@ pub fn decode(rest: &[u8]) -> Point
 }
 
 // 1 for a byte that begins a code point, 0 for one that goes on with it.
-fn begins(b: u8) -> u8
+pub fn begins(b: u8) -> u8
     ensures { λ r. ⌜ r ≡ beginsOne b ⌝ }
 {
     if b < 0x80 {

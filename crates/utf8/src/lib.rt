@@ -3,6 +3,7 @@ mod decoding;
 mod encoding;
 
 pub use decoding::Point;
+pub use decoding::begins;
 pub use decoding::decode;
 pub use decoding::ones;
 pub use decoding::points_in;

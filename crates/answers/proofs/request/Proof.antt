@@ -23,9 +23,6 @@ word-requires-3 c κs = search needs
 wide-requires-2 : tie.Need-wide-requires-2
 wide-requires-2 c κs = search needs
 
-word-requires-4 : tie.Need-word-requires-4
-word-requires-4 c κs = search needs
-
 wide-requires-3 : tie.Need-wide-requires-3
 wide-requires-3 c κs = search needs
 
@@ -61,9 +58,6 @@ slice-aggregate-read-all c = sym (length-take-le _ _ (search needs))
 
 read-all-requires : tie.Need-read-all-requires
 read-all-requires c κs = search needs
-
-bad-requires-5 : tie.Need-bad-requires-5
-bad-requires-5 c κs = search needs
 
 same-length : tie.Need-same-length
 same-length c = search needs
@@ -104,20 +98,16 @@ same-length-4 c = search needs
 same-length-5 : tie.Need-same-length-5
 same-length-5 c = search needs
 
-returns-6 : tie.Need-returns-6
-returns-6 c = search needs
-
 pub request-spec : {M : Type 1} → statement M
 request-spec =
     tie.close
     (tie.spec
     word-requires
-    word-requires-2
     wide-requires
     cells-of-requires
-    word-requires-3
+    word-requires-2
     wide-requires-2
-    word-requires-4
+    word-requires-3
     wide-requires-3
     bad-requires
     returns
@@ -125,14 +115,12 @@ request-spec =
     returns-2
     bad-requires-3
     returns-3
-    bad-requires-4
-    returns-4
     slice-relend-prefix-read-all
     slice-aggregate-read-all
     read-all-requires
-    bad-requires-5
+    bad-requires-4
     same-length
-    returns-5
+    returns-4
     slice-reshare-prefix-answer
     slice-aggregate-answer
     slice-relend-prefix-answer
@@ -144,4 +132,4 @@ request-spec =
     same-length-3
     same-length-4
     same-length-5
-    returns-6)
+    returns-5)

@@ -1,13 +1,12 @@
--- Where no byte is above 7F the short way serves.
+-- Where a valid line has as many code points as bytes, none is above 7F, and the short way serves.
+use native.Mathlib.Omega.{arith}
+use Rattle.utf8.proofs.Ascii.{points-plain}
 use borrow.Author.Needs.{needs}
 use Rattle.canvas.proofs.row.letters_within.Statement.{statement}
 use Rattle.canvas.proofs.row.letters_within.Tie as tie
 
-plain-requires : tie.Need-plain-requires
-plain-requires c κs = search needs
-
 letters-plain-requires : tie.Need-letters-plain-requires
-letters-plain-requires c κs = (c .before .before .plain .ensures .0 (c .before .if1 .taken), search needs)
+letters-plain-requires c κs = let s = c .before .before .before .before in (points-plain (s .args .line .now) (s .pre .0) (omega arith), search needs)
 
 same-length : tie.Need-same-length
 same-length c = search needs
@@ -28,7 +27,6 @@ pub letters-within-spec : {M : Type 1} → statement M
 letters-within-spec =
     tie.close
     (tie.spec
-    plain-requires
     letters-plain-requires
     same-length
     returns

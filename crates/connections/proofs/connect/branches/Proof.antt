@@ -8,19 +8,20 @@ use Rattle.levels.proofs.Walks.{next-from}
 use Rattle.canvas.specs.Stroked.{stroked}
 use Rattle.connections.specs.Connect.{branchesAt, Next}
 use Rattle.connections.proofs.Connecting.{next-right, branches-more, branches-done}
+use Rattle.rules.specs.Look.{marksIn}
 use borrow.Author.Needs.{needs}
 use Rattle.connections.proofs.connect.branches.Statement.{statement}
 use Rattle.connections.proofs.connect.branches.Tie as tie
 
 abbrev Inv-loop : tie.InvT-loop
-Inv-loop cells₀ size table child end middle lines gap x k₀ from₀ cells k from =
+Inv-loop cells₀ size marks table child end middle lines gap x k₀ from₀ cells k from =
     (length cells ≡ length cells₀)
     × Next table end (gap .depth + 1) middle from k
-    × (stroked (size .width) (size .height) (branchesAt middle lines gap x (nodesIn table child end (gap .depth + 1))) cells₀
-    ≡ stroked (size .width) (size .height) (branchesAt middle lines gap from (nodesIn table k end (gap .depth + 1))) cells)
+    × (stroked (size .width) (size .height) (branchesAt (marksIn marks) middle lines gap x (nodesIn table child end (gap .depth + 1))) cells₀
+    ≡ stroked (size .width) (size .height) (branchesAt (marksIn marks) middle lines gap from (nodesIn table k end (gap .depth + 1))) cells)
 
 abbrev μ-loop : tie.MeasureT-loop
-μ-loop cells₀ size table child end middle lines gap x k₀ from₀ cells k from = end - k
+μ-loop cells₀ size marks table child end middle lines gap x k₀ from₀ cells k from = end - k
 
 loop-holds : tie.Need-loop-holds Inv-loop μ-loop
 loop-holds c = (refl, c .before .before .pre .1 .1, refl)
@@ -87,7 +88,7 @@ loop-again c =
       search needs,
       next-right (s .args .table .now) (s .args .end) (s .args .middle .now) (s .args .lines .now) g (l .k) (n .result) (s .pre .1 .0) h (l .inv .1 .found h) (n .ensures),
       l .inv .2
-          ∙ branches-more (s .args .table .now) (s .args .end) (s .args .middle .now) (s .args .lines .now) g (s .args .size .width) (s .args .size .height) (l .cells) (c .before .before .branch .last .0) (search needs)
+          ∙ branches-more (s .args .table .now) (s .args .end) (s .args .middle .now) (s .args .lines .now) g (marksIn (s .args .marks)) (s .args .size .width) (s .args .size .height) (l .cells) (c .before .before .branch .last .0) (search needs)
           (l .from) (l .k) (n .result) (c .before .before .before .before .turn-of .result) (c .before .before .before .before .before .top-of .result) (s .pre .1 .0) (l .inv .1) h (n .ensures)
           (c .before .before .before .before .turn-of .ensures) (c .before .before .before .before .before .top-of .ensures) (c .before .before .branch .ensures),
     )
@@ -99,7 +100,7 @@ returns : tie.Need-returns Inv-loop μ-loop
 returns c =
     let s = c .before .before .before .before in
     let l = c .before .loop in
-    branches-done (s .args .table .now) (s .args .end) (s .args .middle .now) (s .args .lines .now) (s .args .gap) (s .args .size .width) (s .args .size .height) (l .cells) (search needs)
+    branches-done (s .args .table .now) (s .args .end) (s .args .middle .now) (s .args .lines .now) (s .args .gap) (marksIn (s .args .marks)) (s .args .size .width) (s .args .size .height) (l .cells) (search needs)
     (l .from) (l .k) (l .inv .1 .within) (omega arith)
     ∙ sym (l .inv .2)
 

@@ -1,6 +1,7 @@
 -- No child, a child straight below and those further right, or all of them further right.
 use native.Mathlib.Omega.{arith}
 use Rattle.connections.proofs.Connecting.{first-child, second-right, first-right, connector-none, straight-drawn, bent-drawn}
+use Rattle.rules.specs.Look.{marksIn}
 use borrow.Author.Needs.{needs}
 use Rattle.connections.proofs.connect.connect.Statement.{statement}
 use Rattle.connections.proofs.connect.connect.Tie as tie
@@ -18,7 +19,7 @@ returns : tie.Need-returns
 returns c =
     let s = c .before .before .before .before .before in
     let n = c .before .next-cell in
-    connector-none (s .args .table .now) (s .args .end) (s .args .middle .now) (s .args .lines .now) (s .args .gap) (s .args .size .width) (s .args .size .height) (s .args .cells .now) (search needs) (s .args .p) (n .result) (s .pre .1 .1 .0) (n .ensures) (c .if1 .taken)
+    connector-none (s .args .table .now) (s .args .end) (s .args .middle .now) (s .args .lines .now) (s .args .gap) (marksIn (s .args .marks)) (s .args .size .width) (s .args .size .height) (s .args .cells .now) (search needs) (s .args .p) (n .result) (s .pre .1 .1 .0) (n .ensures) (c .if1 .taken)
 
 mul-x : tie.Need-mul-x
 mul-x c = search needs
@@ -108,7 +109,7 @@ returns-2 : tie.Need-returns-2
 returns-2 c =
     let s = c .before .before .before .before .before .before .before .before .before .before .before .before .before .before .before .before .before .before .before .before .before .before .before in
     let n = c .before .before .before .before .before .before .before .before .before .before .before .before .before .before .before .before .before .before .before .next-cell in
-    straight-drawn (s .args .table .now) (s .args .end) (s .args .middle .now) (s .args .lines .now) (s .args .gap) (s .args .size .width) (s .args .size .height) (s .args .cells .now) (c .before .before .before .before .before .before .before .before .straight .last .0) (search needs)
+    straight-drawn (s .args .table .now) (s .args .end) (s .args .middle .now) (s .args .lines .now) (s .args .gap) (marksIn (s .args .marks)) (s .args .size .width) (s .args .size .height) (s .args .cells .now) (c .before .before .before .before .before .before .before .before .straight .last .0) (search needs)
     (s .args .p) (n .result) (c .before .before .before .before .next-cell2 .result) (c .before .before .before .before .before .before .before .before .before .before .before .before .before .before .before .bottom-of .result) (c .before .before .before .before .before .before .before .before .before .before .top-of .result) (c .before .before .bends .last .0)
     (s .pre .1 .1 .0) (n .ensures) (c .before .before .before .before .before .before .before .before .before .before .before .before .before .before .before .before .before .before .if1 .left) (c .before .before .before .before .next-cell2 .ensures) (c .before .before .before .before .before .before .before .before .before .before .before .before .if2 .taken) (c .before .before .before .before .before .before .before .before .before .before .before .before .before .before .before .bottom-of .ensures) (c .before .before .before .before .before .before .before .before .before .before .top-of .ensures)
     (c .before .before .before .before .before .before .before .before .straight .ensures) (c .before .before .bends .ensures)
@@ -134,7 +135,7 @@ returns-3 : tie.Need-returns-3
 returns-3 c =
     let s = c .before .before .before .before .before .before .before .before .before .before .before .before .before .before .before in
     let n = c .before .before .before .before .before .before .before .before .before .before .before .next-cell in
-    bent-drawn (s .args .table .now) (s .args .end) (s .args .middle .now) (s .args .lines .now) (s .args .gap) (s .args .size .width) (s .args .size .height) (s .args .cells .now) (c .before .before .bends2 .last .0) (search needs) (s .args .p) (n .result) (c .before .before .before .before .before .before .before .bottom-of .result)
+    bent-drawn (s .args .table .now) (s .args .end) (s .args .middle .now) (s .args .lines .now) (s .args .gap) (marksIn (s .args .marks)) (s .args .size .width) (s .args .size .height) (s .args .cells .now) (c .before .before .bends2 .last .0) (search needs) (s .args .p) (n .result) (c .before .before .before .before .before .before .before .bottom-of .result)
     (s .pre .1 .1 .0) (n .ensures) (c .before .before .before .before .before .before .before .before .before .before .if1 .left) (c .before .before .before .before .if2 .left) (c .before .before .before .before .before .before .before .bottom-of .ensures) (c .before .before .bends2 .ensures)
 
 pub connect-spec : {M : Type 1} → statement M

@@ -10,20 +10,21 @@ use Rattle.levels.proofs.Walks.{next-from, next-most, next-holds}
 use Rattle.canvas.specs.Stroked.{stroked}
 use Rattle.connections.specs.Connect.{connectorsAt, connectionsAt}
 use Rattle.connections.proofs.Connecting.{spread-less, connectors-more, connectors-from, connectors-done}
+use Rattle.rules.specs.Look.{marksIn}
 use borrow.Author.Needs.{needs}
 use Rattle.connections.proofs.connect.draw_connections.Statement.{statement}
 use Rattle.connections.proofs.connect.draw_connections.Tie as tie
 
 abbrev Inv-loop : tie.InvT-loop
-Inv-loop cells₀ size table nodes middle lines gap p₀ cells p =
+Inv-loop cells₀ size marks table nodes middle lines gap p₀ cells p =
     (length cells ≡ length cells₀)
     × (p ≤ nodes)
     × (p < nodes → cellIn table (gap .depth) p ≡ true)
-    × (stroked (size .width) (size .height) (connectionsAt middle lines gap table nodes) cells₀
-    ≡ stroked (size .width) (size .height) (connectorsAt middle lines gap table nodes (nodesIn table p nodes (gap .depth))) cells)
+    × (stroked (size .width) (size .height) (connectionsAt (marksIn marks) middle lines gap table nodes) cells₀
+    ≡ stroked (size .width) (size .height) (connectorsAt (marksIn marks) middle lines gap table nodes (nodesIn table p nodes (gap .depth))) cells)
 
 abbrev μ-loop : tie.MeasureT-loop
-μ-loop cells₀ size table nodes middle lines gap p₀ cells p = nodes - p
+μ-loop cells₀ size marks table nodes middle lines gap p₀ cells p = nodes - p
 
 next-cell-requires : tie.Need-next-cell-requires Inv-loop μ-loop
 next-cell-requires c κs = search needs
@@ -35,7 +36,7 @@ loop-holds c =
       refl,
       omega (arith, n .ensures, next-most (s .args .table .now) (s .args .gap .depth) (s .args .nodes) 0 (omega arith)),
       (λ h. ap (cellIn (s .args .table .now) (s .args .gap .depth)) (n .ensures) ∙ next-holds (s .args .table .now) (s .args .gap .depth) (s .args .nodes) 0 (omega arith) (omega (arith, n .ensures))),
-      connectors-from (s .args .table .now) (s .args .nodes) (s .args .middle .now) (s .args .lines .now) (s .args .gap) (s .args .size .width) (s .args .size .height) (s .args .cells .now) (n .result) (n .ensures),
+      connectors-from (s .args .table .now) (s .args .nodes) (s .args .middle .now) (s .args .lines .now) (s .args .gap) (marksIn (s .args .marks)) (s .args .size .width) (s .args .size .height) (s .args .cells .now) (n .result) (n .ensures),
     )
 
 add-next-cell : tie.Need-add-next-cell Inv-loop μ-loop
@@ -73,7 +74,7 @@ loop-again c =
       omega (arith, n .ensures, next-most (s .args .table .now) (s .args .gap .depth) (s .args .nodes) (l .p + 1) (omega arith)),
       (λ g. ap (cellIn (s .args .table .now) (s .args .gap .depth)) (n .ensures) ∙ next-holds (s .args .table .now) (s .args .gap .depth) (s .args .nodes) (l .p + 1) (omega arith) (omega (arith, n .ensures))),
       l .inv .3
-          ∙ connectors-more (s .args .table .now) (s .args .nodes) (s .args .middle .now) (s .args .lines .now) (s .args .gap) (s .args .size .width) (s .args .size .height) (l .cells) (c .before .before .connect .last .0) (l .p) (n .result) (search needs) h (l .inv .2 h) (n .ensures) (c .before .before .connect .ensures),
+          ∙ connectors-more (s .args .table .now) (s .args .nodes) (s .args .middle .now) (s .args .lines .now) (s .args .gap) (marksIn (s .args .marks)) (s .args .size .width) (s .args .size .height) (l .cells) (c .before .before .connect .last .0) (l .p) (n .result) (search needs) h (l .inv .2 h) (n .ensures) (c .before .before .connect .ensures),
     )
 
 same-length : tie.Need-same-length Inv-loop μ-loop
@@ -83,7 +84,7 @@ returns : tie.Need-returns Inv-loop μ-loop
 returns c =
     let s = c .before .before .before .before .before in
     let l = c .before .loop in
-    connectors-done (s .args .table .now) (s .args .nodes) (s .args .middle .now) (s .args .lines .now) (s .args .gap) (s .args .size .width) (s .args .size .height) (l .cells) (l .p) (search needs) (l .inv .1) (omega arith) ∙ sym (l .inv .3)
+    connectors-done (s .args .table .now) (s .args .nodes) (s .args .middle .now) (s .args .lines .now) (s .args .gap) (marksIn (s .args .marks)) (s .args .size .width) (s .args .size .height) (l .cells) (l .p) (search needs) (l .inv .1) (omega arith) ∙ sym (l .inv .3)
 
 pub draw-connections-spec : {M : Type 1} → statement M
 draw-connections-spec =

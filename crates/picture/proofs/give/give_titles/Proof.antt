@@ -1,20 +1,22 @@
 -- The invariant: the titles of the first k nodes are stored.
-use Prim.Native.Nat.{_≤_, _-_}
+use mathlib.Core.List.{List}
+use Prim.Native.Nat.{ℕ, _≤_, _-_}
 use mathlib.Core.Path.{_≡_, refl, ap, _∙_}
 use native.Mathlib.Omega.{arith}
 use lib.ListN.{length, length-append}
 use lib.Seq.{sets, length-sets}
-use Rattle.rules.specs.Plan.{nodeAt}
-use Rattle.picture_sight.specs.Plan.{planSeen}
-use Rattle.picture.proofs.Titles.{titlesTo, titles-none, titles-more}
-use Rattle.picture.proofs.Giving.{entry-in, fits-at, stands-at, block-at}
-use Rattle.picture.proofs.Stored.{stored-title, stored-titles}
+use Rattle.rules.specs.Base.{each}
+use Rattle.picture_sight.specs.Seen.{seen}
+use Rattle.picture.specs.Standing.{titleBy}
+use Rattle.picture.proofs.Titles.{parts-none, parts-more, parts-fit}
+use Rattle.picture.proofs.Giving.{entry-in, stands-at, block-at}
+use Rattle.picture.proofs.Stored.{stored-all, stored-part}
 use borrow.Author.Needs.{needs}
 use Rattle.picture.proofs.give.give_titles.Statement.{statement}
 use Rattle.picture.proofs.give.give_titles.Tie as tie
 
 abbrev Inv-loop : tie.InvT-loop
-Inv-loop cells width height found nodes cy middle lines longest out₀ at₀ k₀ out at k = (k ≤ nodes) × (length out ≡ length out₀) × (at ≡ length (titlesTo (planSeen cells width height) k)) × (out ≡ sets out₀ 0 (titlesTo (planSeen cells width height) k))
+Inv-loop cells width height found nodes cy middle lines longest out₀ at₀ k₀ out at k = (k ≤ nodes) × (length out ≡ length out₀) × (at ≡ length (each (titleBy (seen cells width height) found cy middle lines longest) k)) × (out ≡ sets out₀ 0 (each (titleBy (seen cells width height) found cy middle lines longest) k))
 
 abbrev μ-loop : tie.MeasureT-loop
 μ-loop cells width height found nodes cy middle lines longest out₀ at₀ k₀ out at k = nodes - k
@@ -22,8 +24,9 @@ abbrev μ-loop : tie.MeasureT-loop
 loop-holds : tie.Need-loop-holds Inv-loop μ-loop
 loop-holds c =
     let s = c .before .before .before in
-    let p = planSeen (s .args .cells .now) (s .args .width) (s .args .height) in
-    (search needs, refl, rw (titles-none p) refl, rw (titles-none p) refl)
+    let a = s .args in
+    let f : ℕ → List ℕ = titleBy (seen (a .cells .now) (a .width) (a .height)) (a .found .now) (a .cy .now) (a .middle .now) (a .lines .now) (a .longest .now) in
+    (search needs, refl, rw (parts-none f) refl, rw (parts-none f) refl)
 
 mul-wide : tie.Need-mul-wide Inv-loop μ-loop
 mul-wide c = search needs
@@ -36,7 +39,7 @@ shared-slice-read-wide c =
     let s = c .before .before .before .before .before .before in
     let a = s .args in
     let l = c .before .before .loop in
-    entry-in (a .cells .now) (a .width) (a .height) (a .nodes) (a .found .now) (a .cy .now) (a .middle .now) (a .lines .now) (a .longest .now) (s .pre .1 .1 .0) (l .k) (search needs)
+    entry-in (a .nodes) (a .found .now) (a .cy .now) (a .middle .now) (a .lines .now) (a .longest .now) (s .pre .1 .1 .0) (l .k) (search needs)
 
 wide-requires : tie.Need-wide-requires Inv-loop μ-loop
 wide-requires c κs = search needs
@@ -67,14 +70,14 @@ sub-x c =
     let s = c .before .before .before .before .before .before .before .before .before .before .before in
     let a = s .args in
     let l = c .before .before .before .before .before .before .before .loop in
-    omega (arith, c .half-up .ensures, stands-at (a .cells .now) (a .width) (a .height) (a .nodes) (a .found .now) (a .cy .now) (a .middle .now) (a .lines .now) (a .longest .now) (s .pre .1 .1 .0) (l .k) (search needs) (c .before .before .before .before .wide .result) (c .before .before .before .before .wide .ensures) .left)
+    omega (arith, c .half-up .ensures, stands-at (a .nodes) (a .found .now) (a .cy .now) (a .middle .now) (a .lines .now) (a .longest .now) (s .pre .1 .1 .0) (l .k) (search needs) (c .before .before .before .before .wide .result) (c .before .before .before .before .wide .ensures) .left)
 
 mul-y : tie.Need-mul-y Inv-loop μ-loop
 mul-y c =
     let s = c .before .before .before .before .before .before .before .before .before .before .before in
     let a = s .args in
     let l = c .before .before .before .before .before .before .before .loop in
-    let i = stands-at (a .cells .now) (a .width) (a .height) (a .nodes) (a .found .now) (a .cy .now) (a .middle .now) (a .lines .now) (a .longest .now) (s .pre .1 .1 .0) (l .k) (search needs) (c .before .before .before .before .wide .result) (c .before .before .before .before .wide .ensures) .in-rows in
+    let i = stands-at (a .nodes) (a .found .now) (a .cy .now) (a .middle .now) (a .lines .now) (a .longest .now) (s .pre .1 .1 .0) (l .k) (search needs) (c .before .before .before .before .wide .result) (c .before .before .before .before .wide .ensures) .in-rows in
     search needs
 
 element-copy-out-y : tie.Need-element-copy-out-y Inv-loop μ-loop
@@ -82,7 +85,7 @@ element-copy-out-y c =
     let s = c .before .before .before .before .before .before .before .before .before .before .before in
     let a = s .args in
     let l = c .before .before .before .before .before .before .before .loop in
-    let i = stands-at (a .cells .now) (a .width) (a .height) (a .nodes) (a .found .now) (a .cy .now) (a .middle .now) (a .lines .now) (a .longest .now) (s .pre .1 .1 .0) (l .k) (search needs) (c .before .before .before .before .wide .result) (c .before .before .before .before .wide .ensures) .in-rows in
+    let i = stands-at (a .nodes) (a .found .now) (a .cy .now) (a .middle .now) (a .lines .now) (a .longest .now) (s .pre .1 .1 .0) (l .k) (search needs) (c .before .before .before .before .wide .result) (c .before .before .before .before .wide .ensures) .in-rows in
     search needs
 
 sub-y : tie.Need-sub-y Inv-loop μ-loop
@@ -90,7 +93,7 @@ sub-y c =
     let s = c .before .before .before .before .before .before .before .before .before .before .before .before in
     let a = s .args in
     let l = c .before .before .before .before .before .before .before .before .loop in
-    stands-at (a .cells .now) (a .width) (a .height) (a .nodes) (a .found .now) (a .cy .now) (a .middle .now) (a .lines .now) (a .longest .now) (s .pre .1 .1 .0) (l .k) (search needs) (c .before .before .before .before .before .wide .result) (c .before .before .before .before .before .wide .ensures) .above
+    stands-at (a .nodes) (a .found .now) (a .cy .now) (a .middle .now) (a .lines .now) (a .longest .now) (s .pre .1 .1 .0) (l .k) (search needs) (c .before .before .before .before .before .wide .result) (c .before .before .before .before .before .wide .ensures) .above
 
 write-block-requires : tie.Need-write-block-requires Inv-loop μ-loop
 write-block-requires c κs =
@@ -98,10 +101,10 @@ write-block-requires c κs =
     let a = s .args in
     let l = c .before .before .before .before .before .before .before .before .before .loop in
     let i = c .before .before .before .before .before .before .wide in
-    let st = stands-at (a .cells .now) (a .width) (a .height) (a .nodes) (a .found .now) (a .cy .now) (a .middle .now) (a .lines .now) (a .longest .now) (s .pre .1 .1 .0) (l .k) (search needs) (i .result) (i .ensures) in
+    let st = stands-at (a .nodes) (a .found .now) (a .cy .now) (a .middle .now) (a .lines .now) (a .longest .now) (s .pre .1 .1 .0) (l .k) (search needs) (i .result) (i .ensures) in
     let u = c .before .before .half-up in
-    let is = block-at (a .cells .now) (a .width) (a .height) (a .nodes) (a .found .now) (a .cy .now) (a .middle .now) (a .lines .now) (a .longest .now) (s .pre .1 .1 .0) (l .k) (search needs) (i .result) (i .ensures) (u .result) (u .ensures) in
-    ((s .pre .0, omega (arith, st .wide), omega (arith, st .low), st .some, omega (arith, ap length is, fits-at (a .cells .now) (a .width) (a .height) (a .nodes) (a .found .now) (a .cy .now) (a .middle .now) (a .lines .now) (a .longest .now) (s .pre .1 .1 .0) (l .k) (search needs), s .pre .1 .1 .1, l .inv .1, l .inv .2)), s .pre .1 .0)
+    let is = block-at (a .nodes) (a .found .now) (a .cy .now) (a .middle .now) (a .lines .now) (a .longest .now) (s .pre .1 .1 .0) (l .k) (search needs) (i .result) (i .ensures) (seen (a .cells .now) (a .width) (a .height)) (u .result) (u .ensures) in
+    ((s .pre .0, omega (arith, st .wide), omega (arith, st .low), st .some, omega (arith, ap length is, parts-fit (titleBy (seen (a .cells .now) (a .width) (a .height)) (a .found .now) (a .cy .now) (a .middle .now) (a .lines .now) (a .longest .now)) (l .k) (a .nodes) (search needs), s .pre .1 .1 .1, l .inv .1, l .inv .2)), s .pre .1 .0)
 
 add-k : tie.Need-add-k Inv-loop μ-loop
 add-k c = search needs
@@ -117,13 +120,13 @@ loop-again c =
     let i = c .before .before .before .before .before .before .before .before .before .wide in
     let u = c .before .before .before .before .before .half-up in
     let r = c .before .before .write-block in
-    let p = planSeen (a .cells .now) (a .width) (a .height) in
-    let is = block-at (a .cells .now) (a .width) (a .height) (a .nodes) (a .found .now) (a .cy .now) (a .middle .now) (a .lines .now) (a .longest .now) (s .pre .1 .1 .0) (l .k) (omega (arith, c .before .before .before .before .before .before .before .before .before .before .before .loop-test)) (i .result) (i .ensures) (u .result) (u .ensures) in
-    let put : r .last .1 .1 .1 .1 .1 .1 .1 .0 ≡ sets (l .out) (l .at) (nodeAt p (l .k) .title) = rw is (r .ensures .1) in (
+    let f : ℕ → List ℕ = titleBy (seen (a .cells .now) (a .width) (a .height)) (a .found .now) (a .cy .now) (a .middle .now) (a .lines .now) (a .longest .now) in
+    let is = block-at (a .nodes) (a .found .now) (a .cy .now) (a .middle .now) (a .lines .now) (a .longest .now) (s .pre .1 .1 .0) (l .k) (omega (arith, c .before .before .before .before .before .before .before .before .before .before .before .loop-test)) (i .result) (i .ensures) (seen (a .cells .now) (a .width) (a .height)) (u .result) (u .ensures) in
+    let put : r .last .1 .1 .1 .1 .1 .1 .1 .0 ≡ sets (l .out) (l .at) (f (l .k)) = rw is (r .ensures .1) in (
       omega (arith, c .before .before .before .before .before .before .before .before .before .before .before .loop-test),
-      ap length put ∙ length-sets (l .out) (l .at) (nodeAt p (l .k) .title) ∙ l .inv .1,
-      omega (arith, r .ensures .0, ap length is, ap length (titles-more p (l .k)), length-append (titlesTo p (l .k)) (nodeAt p (l .k) .title), l .inv .2),
-      stored-title p (a .out .now) (l .out) (r .last .1 .1 .1 .1 .1 .1 .1 .0) (l .at) (l .k) (l .inv .2) (l .inv .3) put,
+      ap length put ∙ length-sets (l .out) (l .at) (f (l .k)) ∙ l .inv .1,
+      omega (arith, r .ensures .0, ap length is, ap length (parts-more f (l .k)), length-append (each f (l .k)) (f (l .k)), l .inv .2),
+      stored-part f (a .out .now) (l .out) (r .last .1 .1 .1 .1 .1 .1 .1 .0) (l .at) (l .k) (l .inv .2) (l .inv .3) put,
     )
 
 same-length : tie.Need-same-length Inv-loop μ-loop
@@ -134,7 +137,8 @@ returns c =
     let s = c .before .before .before .before .before in
     let a = s .args in
     let l = c .before .loop in
-    stored-titles (planSeen (a .cells .now) (a .width) (a .height)) (a .out .now) (l .out) (l .k) (s .pre .1 .1 .1) (omega (arith, s .pre .1 .1 .0 .counted)) (l .inv .3)
+    let e : l .k ≡ a .nodes = omega arith in
+    l .inv .3 ∙ rw e (stored-all (a .out .now) (each (titleBy (seen (a .cells .now) (a .width) (a .height)) (a .found .now) (a .cy .now) (a .middle .now) (a .lines .now) (a .longest .now)) (a .nodes)) (s .pre .1 .1 .1))
 
 pub give-titles-spec : {M : Type 1} → statement M
 give-titles-spec =

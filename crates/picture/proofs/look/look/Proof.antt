@@ -1,5 +1,6 @@
 -- What is seen of the outside is known, and the inside told by it.
 use native.Mathlib.Omega.{arith}
+use Rattle.rules.specs.Look.{marksIn}
 use Rattle.picture_sight.specs.Seen.{seen}
 use Rattle.picture.proofs.Looking.{rows-most, columns-most, rows-known, columns-known, rows-low, known}
 use borrow.Author.Needs.{needs}
@@ -23,7 +24,7 @@ bands-requires c κs =
     let r = c .before .before .before .before .before .seen-rows in
     let k = c .before .before .before .seen-columns in
     let g = seen (a .cells .now) (a .width) (a .height) in
-    ((s .pre .fits, omega (arith, columns-known (a .cells .now) (a .width) (a .height) (s .pre) (m .result) (r .result) (k .result) (r .last .1 .1 .1 .1 .0) (k .last .1 .1 .1 .0) (m .ensures) (r .ensures .0) (r .ensures .1) (k .ensures .0) (k .ensures .1), columns-most g (a .width) (a .height)), omega (arith, rows-known (a .cells .now) (a .width) (a .height) (s .pre) (m .result) (r .result) (k .result) (r .last .1 .1 .1 .1 .0) (k .last .1 .1 .1 .0) (m .ensures) (r .ensures .0) (r .ensures .1) (k .ensures .0) (k .ensures .1), rows-most g (a .width) (a .height))), rows-low (a .cells .now) (a .width) (a .height) (s .pre) (m .result) (r .result) (k .result) (r .last .1 .1 .1 .1 .0) (k .last .1 .1 .1 .0) (m .ensures) (r .ensures .0) (r .ensures .1) (k .ensures .0) (k .ensures .1))
+    ((s .pre .0 .fits, omega (arith, columns-known (a .cells .now) (a .width) (a .height) (s .pre .0) (m .result) (r .result) (k .result) (r .last .1 .1 .1 .1 .0) (k .last .1 .1 .1 .0) (m .ensures) (r .ensures .0) (r .ensures .1) (k .ensures .0) (k .ensures .1), columns-most g (a .width) (a .height)), omega (arith, rows-known (a .cells .now) (a .width) (a .height) (s .pre .0) (m .result) (r .result) (k .result) (r .last .1 .1 .1 .1 .0) (k .last .1 .1 .1 .0) (m .ensures) (r .ensures .0) (r .ensures .1) (k .ensures .0) (k .ensures .1), rows-most g (a .width) (a .height))), rows-low (a .cells .now) (a .width) (a .height) (s .pre .0) (m .result) (r .result) (k .result) (r .last .1 .1 .1 .1 .0) (k .last .1 .1 .1 .0) (m .ensures) (r .ensures .0) (r .ensures .1) (k .ensures .0) (k .ensures .1))
 
 inside-requires : tie.Need-inside-requires
 inside-requires c κs =
@@ -33,7 +34,7 @@ inside-requires c κs =
     let r = c .before .before .before .before .before .before .before .before .before .before .before .seen-rows in
     let k = c .before .before .before .before .before .before .before .before .before .seen-columns in
     let b = c .before .before .before .before .before .bands in
-    (s .pre, (known (a .cells .now) (a .width) (a .height) (s .pre) (m .result) (r .result) (k .result) (r .last .1 .1 .1 .1 .0) (k .last .1 .1 .1 .0) (m .ensures) (r .ensures .0) (r .ensures .1) (k .ensures .0) (k .ensures .1) (b .last .1 .1 .1 .1 .1 .1 .1 .0) (b .ensures), columns-known (a .cells .now) (a .width) (a .height) (s .pre) (m .result) (r .result) (k .result) (r .last .1 .1 .1 .1 .0) (k .last .1 .1 .1 .0) (m .ensures) (r .ensures .0) (r .ensures .1) (k .ensures .0) (k .ensures .1), rows-known (a .cells .now) (a .width) (a .height) (s .pre) (m .result) (r .result) (k .result) (r .last .1 .1 .1 .1 .0) (k .last .1 .1 .1 .0) (m .ensures) (r .ensures .0) (r .ensures .1) (k .ensures .0) (k .ensures .1)))
+    (s .pre, (known (a .cells .now) (a .width) (a .height) (s .pre .0) (m .result) (r .result) (k .result) (r .last .1 .1 .1 .1 .0) (k .last .1 .1 .1 .0) (m .ensures) (r .ensures .0) (r .ensures .1) (k .ensures .0) (k .ensures .1) (b .last .1 .1 .1 .1 .1 .1 .1 .0) (b .ensures) (marksIn (a .g)), columns-known (a .cells .now) (a .width) (a .height) (s .pre .0) (m .result) (r .result) (k .result) (r .last .1 .1 .1 .1 .0) (k .last .1 .1 .1 .0) (m .ensures) (r .ensures .0) (r .ensures .1) (k .ensures .0) (k .ensures .1), rows-known (a .cells .now) (a .width) (a .height) (s .pre .0) (m .result) (r .result) (k .result) (r .last .1 .1 .1 .1 .0) (k .last .1 .1 .1 .0) (m .ensures) (r .ensures .0) (r .ensures .1) (k .ensures .0) (k .ensures .1)))
 
 same-length : tie.Need-same-length
 same-length c = search needs

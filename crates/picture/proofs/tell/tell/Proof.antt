@@ -1,8 +1,11 @@
 -- The plan is refused for one of three reasons, or accepted and delivered.
 use mathlib.Core.Path.{refl}
+use Rattle.rules.specs.Look.{Look}
+use Rattle.picture_sight.specs.Plan.{planSeen}
+use Rattle.text.proofs.Counted.{len-most}
 use native.Mathlib.Omega.{arith}
-use Rattle.picture.specs.Answered.{refused, accepted, no-node, wrong-depth, other}
-use Rattle.picture.proofs.Keeping.{counts, depths-wrong, depths-right, small-marks, standing, given, accept}
+use Rattle.picture.specs.Answered.{lookIn, refused, accepted, no-node, wrong-depth, other}
+use Rattle.picture.proofs.Keeping.{counts, depths-wrong, depths-right, small-marks, standing, told, bytes-are, given, accept}
 use borrow.Author.Needs.{needs}
 use Rattle.picture.proofs.tell.tell.Statement.{statement}
 use Rattle.picture.proofs.tell.tell.Tie as tie
@@ -15,24 +18,28 @@ returns c =
 bad-depth-requires : tie.Need-bad-depth-requires
 bad-depth-requires c κs =
     let s = c .before .before .before .before .before in
-    counts (s .pre .0) (s .pre .1)
+    let a = s .args in
+    counts (lookIn (a .measure) (a .g)) (len-most (a .measure)) (s .pre .0 .0) (s .pre .1)
 
 returns-2 : tie.Need-returns-2
 returns-2 c =
     let s = c .before .before .before .before .before .before .before in
+    let a = s .args in
     let d = c .before .bad-depth in
-    refused (wrong-depth (depths-wrong (s .pre .0) (s .pre .1) (d .result) (d .ensures) (c .if2 .taken))) refl refl refl
+    refused (wrong-depth (depths-wrong (lookIn (a .measure) (a .g)) (len-most (a .measure)) (s .pre .0 .0) (s .pre .1) (d .result) (d .ensures) (c .if2 .taken))) refl refl refl
 
 same-requires : tie.Need-same-requires
 same-requires c κs =
     let s = c .before .before .before .before .before .before .before in
+    let a = s .args in
     let d = c .before .bad-depth in
-    given (s .pre .0) (s .pre .1) (omega (arith, c .before .before .if1 .left)) (depths-right (s .pre .0) (s .pre .1) (d .result) (d .ensures) (c .if2 .left))
+    given (lookIn (a .measure) (a .g)) (len-most (a .measure)) (s .pre .0 .0) (s .pre .1) (omega (arith, c .before .before .if1 .left)) (depths-right (lookIn (a .measure) (a .g)) (len-most (a .measure)) (s .pre .0 .0) (s .pre .1) (d .result) (d .ensures) (c .if2 .left)) (s .pre .0 .1)
 
 deliver-requires : tie.Need-deliver-requires
 deliver-requires c κs =
     let s = c .before .before .before .before .before .before .before .before .before .before .before in
-    (s .pre .0 .fits, (small-marks (s .pre .0) (s .pre .1), (standing (s .pre .0) (s .pre .1), s .pre .1 .gathered .sized)))
+    let a = s .args in
+    (s .pre .0 .0 .fits, (small-marks (lookIn (a .measure) (a .g)) (len-most (a .measure)) (s .pre .0 .0) (s .pre .1), (standing (lookIn (a .measure) (a .g)) (len-most (a .measure)) (s .pre .0 .0) (s .pre .1), bytes-are (lookIn (a .measure) (a .g)) (len-most (a .measure)) (s .pre .0 .0) (s .pre .1))))
 
 same-length : tie.Need-same-length
 same-length c = search needs
@@ -43,11 +50,12 @@ same-length-2 c = search needs
 returns-3 : tie.Need-returns-3
 returns-3 c =
     let s = c .before .before .before .before .before .before .before .before .before .before .before .before .before .before .before .before in
+    let a = s .args in
     let d = c .before .before .before .before .before .before .before .before .before .before .bad-depth in
     let q = c .before .before .before .before .before .before .before .before .same .ensures .0 (c .before .before .before .before .before .before .before .if3 .taken) in
     accepted
-    (accept (s .pre .0) (s .pre .1) (omega (arith, c .before .before .before .before .before .before .before .before .before .before .before .if1 .left)) (depths-right (s .pre .0) (s .pre .1) (d .result) (d .ensures) (c .before .before .before .before .before .before .before .before .before .if2 .left)) q)
-    (c .before .before .before .before .deliver .ensures)
+    (accept (lookIn (a .measure) (a .g)) (len-most (a .measure)) (s .pre .0 .0) (s .pre .1) (omega (arith, c .before .before .before .before .before .before .before .before .before .before .before .if1 .left)) (depths-right (lookIn (a .measure) (a .g)) (len-most (a .measure)) (s .pre .0 .0) (s .pre .1) (d .result) (d .ensures) (c .before .before .before .before .before .before .before .before .before .if2 .left)) q)
+    (c .before .before .before .before .deliver .ensures (planSeen (lookIn (a .measure) (a .g) .marks) (a .cells .now) (a .width) (a .height)) (told (lookIn (a .measure) (a .g)) (len-most (a .measure)) (s .pre .0 .0) (s .pre .1)))
 
 returns-4 : tie.Need-returns-4
 returns-4 c = refused (other (c .before .same .ensures .1 (c .if3 .left))) refl refl refl

@@ -4,6 +4,7 @@ use mathlib.Core.Path.{sym, _∙_, _≡_, refl}
 use mathlib.Core.Bool.{true}
 use Prim.Native.Nat.{_<_, _≤_, _-_}
 use native.Mathlib.Omega.{arith}
+use Rattle.rules.specs.Look.{marksIn}
 use Rattle.picture_bands.specs.Strip.{stripsSame}
 use Rattle.picture_bands.specs.Row.{rowBy, seenTo}
 use Rattle.picture_bands.proofs.Strips.{seen-step, fits-spot, strip-is, strips-none, strips-more, strips-not}
@@ -12,12 +13,12 @@ use Rattle.picture_bands.proofs.across.columns_same.Statement.{statemen
 use Rattle.picture_bands.proofs.across.columns_same.Tie as tie
 
 abbrev Inv-loop : tie.InvT-loop
-Inv-loop cells width above here next on top end bend middle lines longest cx xs ncols n seen₀ over₀ j₀ seen over j =
+Inv-loop cells width g above here next on top end bend middle lines longest cx xs ncols n seen₀ over₀ j₀ seen over j =
     (j ≤ ncols) × (seen ≡ seenTo here j) × (over ≡ seenTo above j)
-    × (stripsSame cells width (rowBy above here next on top end bend middle) lines longest cx xs ncols j ≡ true)
+    × (stripsSame (marksIn g) cells width (rowBy above here next on top end bend middle) lines longest cx xs ncols j ≡ true)
 
 abbrev μ-loop : tie.MeasureT-loop
-μ-loop cells width above here next on top end bend middle lines longest cx xs ncols n seen₀ over₀ j₀ seen over j = ncols - j
+μ-loop cells width g above here next on top end bend middle lines longest cx xs ncols n seen₀ over₀ j₀ seen over j = ncols - j
 
 wide-requires : tie.Need-wide-requires Inv-loop μ-loop
 wide-requires c κs = search needs
@@ -26,7 +27,7 @@ loop-holds : tie.Need-loop-holds Inv-loop μ-loop
 unfolding seenTo
 loop-holds c =
     let s = c .before .before .args in
-    (search needs, refl, refl, strips-none (s .cells .now) (s .width) (rowBy (s .above .now) (s .here .now) (s .next .now) (s .on .now) (s .top) (s .end) (s .bend) (s .middle)) (s .lines .now) (s .longest .now) (s .cx .now) (s .xs .now) (s .ncols))
+    (search needs, refl, refl, strips-none (marksIn (s .g)) (s .cells .now) (s .width) (rowBy (s .above .now) (s .here .now) (s .next .now) (s .on .now) (s .top) (s .end) (s .bend) (s .middle)) (s .lines .now) (s .longest .now) (s .cx .now) (s .xs .now) (s .ncols))
 
 mul-k : tie.Need-mul-k Inv-loop μ-loop
 mul-k c = search needs
@@ -106,13 +107,13 @@ loop-again c =
     let l = c .before .before .before .before .before .before .before .before .before .before .before .before .before .loop in
     let h : l .j < s .args .ncols = omega (arith, c .before .before .before .before .before .before .before .before .before .before .before .before .loop-test, c .before .before .before .before .before .before .before .before .before .before .before .before .before .before .wide .ensures) in
     let w =
-    strip-is (s .args .cells .now) (s .args .width) r (s .args .lines .now) (s .args .longest .now) (s .args .cx .now) (s .args .xs .now) (s .args .ncols) (l .j) _ _ _ (c .before .before .before .before .spot-of .result) (l .seen) (l .over) _ (l .inv .1) (l .inv .2)
+    strip-is (marksIn (s .args .g)) (s .args .cells .now) (s .args .width) r (s .args .lines .now) (s .args .longest .now) (s .args .cx .now) (s .args .xs .now) (s .args .ncols) (l .j) _ _ _ (c .before .before .before .before .spot-of .result) (l .seen) (l .over) _ (l .inv .1) (l .inv .2)
     (c .before .before .before .before .before .before .size-of .ensures) (c .before .before .before .before .before .size-of2 .ensures) (c .before .before .before .before .spot-of .ensures) (c .before .before .before .column-end .ensures) (c .before .block-same .ensures)
     in (
       omega arith,
       seen-step (s .args .here .now) (l .j) (l .seen) (l .inv .1),
       seen-step (s .args .above .now) (l .j) (l .over) (l .inv .2),
-      strips-more (s .args .cells .now) (s .args .width) r (s .args .lines .now) (s .args .longest .now) (s .args .cx .now) (s .args .xs .now) (s .args .ncols) (l .j) (l .inv .3) (sym (c .if1 .taken) ∙ w),
+      strips-more (marksIn (s .args .g)) (s .args .cells .now) (s .args .width) r (s .args .lines .now) (s .args .longest .now) (s .args .cx .now) (s .args .xs .now) (s .args .ncols) (l .j) (l .inv .3) (sym (c .if1 .taken) ∙ w),
     )
 
 returns : tie.Need-returns Inv-loop μ-loop
@@ -122,10 +123,10 @@ returns c =
     let l = c .before .before .before .before .before .before .before .before .before .before .before .before .before .loop in
     let h : l .j < s .args .ncols = omega (arith, c .before .before .before .before .before .before .before .before .before .before .before .before .loop-test, c .before .before .before .before .before .before .before .before .before .before .before .before .before .before .wide .ensures) in
     let w =
-    strip-is (s .args .cells .now) (s .args .width) r (s .args .lines .now) (s .args .longest .now) (s .args .cx .now) (s .args .xs .now) (s .args .ncols) (l .j) _ _ _ (c .before .before .before .before .spot-of .result) (l .seen) (l .over) _ (l .inv .1) (l .inv .2)
+    strip-is (marksIn (s .args .g)) (s .args .cells .now) (s .args .width) r (s .args .lines .now) (s .args .longest .now) (s .args .cx .now) (s .args .xs .now) (s .args .ncols) (l .j) _ _ _ (c .before .before .before .before .spot-of .result) (l .seen) (l .over) _ (l .inv .1) (l .inv .2)
     (c .before .before .before .before .before .before .size-of .ensures) (c .before .before .before .before .before .size-of2 .ensures) (c .before .before .before .before .spot-of .ensures) (c .before .before .before .column-end .ensures) (c .before .block-same .ensures)
     in
-    strips-not (s .args .cells .now) (s .args .width) r (s .args .lines .now) (s .args .longest .now) (s .args .cx .now) (s .args .xs .now) (s .args .ncols) (l .j) (s .args .ncols) h (sym (c .if1 .left) ∙ w)
+    strips-not (marksIn (s .args .g)) (s .args .cells .now) (s .args .width) r (s .args .lines .now) (s .args .longest .now) (s .args .cx .now) (s .args .xs .now) (s .args .ncols) (l .j) (s .args .ncols) h (sym (c .if1 .left) ∙ w)
 
 returns-2 : tie.Need-returns-2 Inv-loop μ-loop
 returns-2 c =

@@ -4,6 +4,7 @@ use Prim.Native.Nat.{_<_}
 use native.Mathlib.Omega.{arith}
 use lib.ListN.{getD}
 use Rattle.rules.specs.Levels.{view}
+use Rattle.rules.specs.Look.{marksIn}
 use Rattle.picture_sight.specs.Plan.{planSeen}
 use Rattle.picture_bands.specs.Row.{Row, RowOf, rowBy}
 use Rattle.picture_bands.proofs.Agree.{row-fits, band-mark, made}
@@ -85,7 +86,7 @@ columns-same-requires : tie.Need-columns-same-requires
 columns-same-requires c κs =
     let s = c .before .before .before .before .before .before .before .before .before .before .before .before .before .before in
     let q = s .pre .1 .1 in
-    let hi : s .args .i < view (planSeen (s .args .cells .now) (s .args .width) (s .args .height)) .rows = omega (arith, s .pre .0 .1, q .numbers .rows-are) in
+    let hi : s .args .i < view (planSeen (marksIn (s .args .g)) (s .args .cells .now) (s .args .width) (s .args .height)) .rows = omega (arith, s .pre .0 .1, q .numbers .rows-are) in
     let f = row-fits (s .args .cells .now) q (s .args .i) hi (row c) (held c) (s .pre .0 .0) in
     ((f .0, f .1, made (s .args .cells .now) q .columns-few), λ j b. apt q (s .args .i) j hi (omega (arith, q .numbers .columns-are)) (row c) (held c))
 
@@ -93,7 +94,7 @@ returns : tie.Need-returns
 returns c =
     let s = c .before .before .before .before .before .before .before .before .before .before .before .before .before .before .before in
     let q = s .pre .1 .1 in
-    let hi : s .args .i < view (planSeen (s .args .cells .now) (s .args .width) (s .args .height)) .rows = omega (arith, s .pre .0 .1, q .numbers .rows-are) in (
+    let hi : s .args .i < view (planSeen (marksIn (s .args .g)) (s .args .cells .now) (s .args .width) (s .args .height)) .rows = omega (arith, s .pre .0 .1, q .numbers .rows-are) in (
       c .columns-same .ensures ∙ band-mark (s .args .cells .now) q (s .args .i) hi (row (c .before)) (held (c .before)),
       (c .before .before .before .before .before .before .before .before .before .before .before .row-cells .ensures, c .before .before .before .before .before .before .before .before .onward .ensures .0),
     )

@@ -4,7 +4,7 @@ use mathlib.Core.Path.{_≡_, refl, ap, sym, _∙_}
 use Prim.Native.Nat.{ℕ, _+_, _-_, _≤_, _<_}
 use native.Mathlib.Omega.{arith}
 use lib.ListN.{length}
-use Rattle.rules.specs.Drawing.{boxes}
+use Rattle.rules.specs.Look.{lenOf, marksIn}
 use Rattle.rules.specs.Measures.{d}
 use Rattle.rules.specs.Levels.{view}
 use Rattle.marks.specs.Whole.{markAt}
@@ -20,12 +20,12 @@ use Rattle.picture_bands.proofs.down.bands_same.Statement.{statement}
 use Rattle.picture_bands.proofs.down.bands_same.Tie as tie
 
 abbrev Inv-loop : tie.InvT-loop
-Inv-loop cells width height table nodes column lines longest cx xs ncols cy ys nrows above₀ here₀ next₀ on₀ i₀ above here next on i =
+Inv-loop cells width height measure g table nodes column lines longest cx xs ncols cy ys nrows above₀ here₀ next₀ on₀ i₀ above here next on i =
     (i ≤ nrows) × (above ≡ nodesIn table column i nodes) × (here ≡ nodesIn table column (i + 1) nodes) × (length on ≡ 256)
-    × (alikeIn (seen cells width height) (markAt length boxes (view (planSeen cells width height))) (d (view (planSeen cells width height)) + 4) width 3 (rowFrom (view (planSeen cells width height)) i) ≡ true)
+    × (alikeIn (seen cells width height) (markAt (lenOf measure) (marksIn g) (view (planSeen (marksIn g) cells width height))) (d (view (planSeen (marksIn g) cells width height)) + 4) width 3 (rowFrom (view (planSeen (marksIn g) cells width height)) i) ≡ true)
 
 abbrev μ-loop : tie.MeasureT-loop
-μ-loop cells width height table nodes column lines longest cx xs ncols cy ys nrows above₀ here₀ next₀ on₀ i₀ above here next on i =
+μ-loop cells width height measure g table nodes column lines longest cx xs ncols cy ys nrows above₀ here₀ next₀ on₀ i₀ above here next on i =
     nrows - i
 
 row-cells-requires : tie.Need-row-cells-requires Inv-loop μ-loop
@@ -56,7 +56,7 @@ loop-again c =
     let s = c .before .before .before .before .before .before .before .before .before .before .before .before in
     let l = c .before .before .before .before .before .before .before .loop in
     let q = s .pre .1 in
-    let hi : l .i < view (planSeen (s .args .cells .now) (s .args .width) (s .args .height)) .rows = omega (arith, q .numbers .rows-are) in
+    let hi : l .i < view (planSeen (marksIn (s .args .g)) (s .args .cells .now) (s .args .width) (s .args .height)) .rows = omega (arith, q .numbers .rows-are, c .before .before .before .before .before .before .loop-test .taken) in
     let t = c .before .band-same .ensures in
     let z : l .i + 2 ≡ l .i + 1 + 1 = omega arith in
     (search needs, l .inv .2, t .1 .0 ∙ ap (λ (k : ℕ). nodesIn (s .args .table .now) (s .args .column .now) k (s .args .nodes)) z, t .1 .1, rows-more (s .args .cells .now) q (l .i) hi (l .inv .4) (sym (c .if1 .taken) ∙ t .0))
@@ -66,7 +66,7 @@ returns c =
     let s = c .before .before .before .before .before .before .before .before .before .before .before .before in
     let l = c .before .before .before .before .before .before .before .loop in
     let q = s .pre .1 in
-    let hi : l .i < view (planSeen (s .args .cells .now) (s .args .width) (s .args .height)) .rows = omega (arith, q .numbers .rows-are) in
+    let hi : l .i < view (planSeen (marksIn (s .args .g)) (s .args .cells .now) (s .args .width) (s .args .height)) .rows = omega (arith, q .numbers .rows-are, c .before .before .before .before .before .before .loop-test .taken) in
     rows-not (s .args .cells .now) q (l .i) hi (sym (c .if1 .left) ∙ c .before .band-same .ensures .0)
 
 returns-2 : tie.Need-returns-2 Inv-loop μ-loop

@@ -1,5 +1,6 @@
 -- Four pieces: row 0 before the columns and in them, row 1, row 2.
 use mathlib.Core.Path.{refl}
+use Rattle.rules.specs.Look.{marksIn}
 use Rattle.picture_edges.proofs.Runs.{then-no, then-yes}
 use Rattle.picture_edges.proofs.Heads.{heads}
 use borrow.Author.Needs.{needs}
@@ -37,9 +38,9 @@ returns c =
     let u = t1 .before in
     let w = u .before in
     let g = w .before .before .args in
-    λ v d.
-    then-yes (heads v (g .width) (g .ncols) (g .a) (g .cx .now) (g .xs .now) d (g .cells .now)) (u .run-same .ensures) (t1 .if1 .taken)
-    (then-yes refl (k .columns-same .ensures v d) (t2 .if2 .taken)
+    λ len v d.
+    then-yes (heads len (marksIn (g .g)) v (g .width) (g .ncols) (g .a) (g .cx .now) (g .xs .now) d (g .cells .now)) (u .run-same .ensures) (t1 .if1 .taken)
+    (then-yes refl (k .columns-same .ensures len (marksIn (g .g)) v d) (t2 .if2 .taken)
     (then-yes refl (rw (w .wide .ensures) at (l .line-same .ensures)) (t3 .if3 .taken) (rw (w .wide .ensures) at (c .line-same2 .ensures))))
 
 returns-2 : tie.Need-returns-2
@@ -51,9 +52,9 @@ returns-2 c =
     let u = t1 .before in
     let w = u .before in
     let g = w .before .before .args in
-    λ v d.
-    then-yes (heads v (g .width) (g .ncols) (g .a) (g .cx .now) (g .xs .now) d (g .cells .now)) (u .run-same .ensures) (t1 .if1 .taken)
-    (then-yes refl (k .columns-same .ensures v d) (t2 .if2 .taken)
+    λ len v d.
+    then-yes (heads len (marksIn (g .g)) v (g .width) (g .ncols) (g .a) (g .cx .now) (g .xs .now) d (g .cells .now)) (u .run-same .ensures) (t1 .if1 .taken)
+    (then-yes refl (k .columns-same .ensures len (marksIn (g .g)) v d) (t2 .if2 .taken)
     (then-no _ refl (rw (w .wide .ensures) at (l .line-same .ensures)) (c .if3 .left)))
 
 returns-3 : tie.Need-returns-3
@@ -62,13 +63,13 @@ returns-3 c =
     let t1 = k .before in
     let u = t1 .before in
     let g = u .before .before .before .args in
-    λ v d. then-yes (heads v (g .width) (g .ncols) (g .a) (g .cx .now) (g .xs .now) d (g .cells .now)) (u .run-same .ensures) (t1 .if1 .taken) (then-no _ refl (k .columns-same .ensures v d) (c .if2 .left))
+    λ len v d. then-yes (heads len (marksIn (g .g)) v (g .width) (g .ncols) (g .a) (g .cx .now) (g .xs .now) d (g .cells .now)) (u .run-same .ensures) (t1 .if1 .taken) (then-no _ refl (k .columns-same .ensures len (marksIn (g .g)) v d) (c .if2 .left))
 
 returns-4 : tie.Need-returns-4
 returns-4 c =
     let u = c .before in
     let g = u .before .before .before .args in
-    λ v d. then-no _ (heads v (g .width) (g .ncols) (g .a) (g .cx .now) (g .xs .now) d (g .cells .now)) (u .run-same .ensures) (c .if1 .left)
+    λ len v d. then-no _ (heads len (marksIn (g .g)) v (g .width) (g .ncols) (g .a) (g .cx .now) (g .xs .now) d (g .cells .now)) (u .run-same .ensures) (c .if1 .left)
 
 pub head-same-spec : {M : Type 1} → statement M
 head-same-spec =

@@ -42,7 +42,7 @@ returns c =
     let u = m .before in
     let s = u .before .before .before .args in
     let f : ℕ → ℕ → ℕ = λ x y. getD (s .cells .now) (y * s .width + x) 0 in
-    then-yes (around f (s .a) (s .i) (s .cy) (s .a + 2) (s .top) (s .end) (search needs) (search needs)) (u .before .plains-same .ensures) (u .if1 .taken)
+    then-yes (around f (s .axis) (s .a) (s .i) (s .cy) (s .a + 2) (s .top) (s .end) (search needs) (search needs)) (u .before .plains-same .ensures) (u .if1 .taken)
     (then-yes refl (m .center-same .ensures) (t .if2 .taken) (c .plains-same2 .ensures))
 
 returns-2 : tie.Need-returns-2
@@ -51,14 +51,14 @@ returns-2 c =
     let u = m .before in
     let s = u .before .before .before .args in
     let f : ℕ → ℕ → ℕ = λ x y. getD (s .cells .now) (y * s .width + x) 0 in
-    then-yes (around f (s .a) (s .i) (s .cy) (s .a + 2) (s .top) (s .end) (search needs) (search needs)) (u .before .plains-same .ensures) (u .if1 .taken)
+    then-yes (around f (s .axis) (s .a) (s .i) (s .cy) (s .a + 2) (s .top) (s .end) (search needs) (search needs)) (u .before .plains-same .ensures) (u .if1 .taken)
     (then-no _ refl (m .center-same .ensures) (c .if2 .left))
 
 returns-3 : tie.Need-returns-3
 returns-3 c =
     let s = c .before .before .before .args in
     let f : ℕ → ℕ → ℕ = λ x y. getD (s .cells .now) (y * s .width + x) 0 in
-    then-no _ (around f (s .a) (s .i) (s .cy) (s .a + 2) (s .top) (s .end) (search needs) (search needs)) (c .before .plains-same .ensures) (c .if1 .left)
+    then-no _ (around f (s .axis) (s .a) (s .i) (s .cy) (s .a + 2) (s .top) (s .end) (search needs) (search needs)) (c .before .plains-same .ensures) (c .if1 .left)
 
 pub beside-same-spec : {M : Type 1} → statement M
 beside-same-spec =

@@ -36,7 +36,7 @@ returns c =
     let w = m .before in
     let s = w .before .before .before .args in
     then-yes
-    (axis (λ q. getD (s .cells .now) (s .base + q) 0) (indexed (s .i) (s .a - 1 - length (digits (s .i)))) (s .a) 0x2502 32 (s .a + 2) (search needs))
+    (axis (λ q. getD (s .cells .now) (s .base + q) 0) (indexed (s .i) (s .a - 1 - length (digits (s .i)))) (s .a) (s .axis) 32 (s .a + 2) (search needs))
     (rw (w .wide .ensures, w .before .digits .ensures) at (m .label-same .ensures)) (t .if1 .taken) (c .rest-same .ensures)
 
 returns-2 : tie.Need-returns-2
@@ -45,7 +45,7 @@ returns-2 c =
     let w = m .before in
     let s = w .before .before .before .args in
     then-no _
-    (axis (λ q. getD (s .cells .now) (s .base + q) 0) (indexed (s .i) (s .a - 1 - length (digits (s .i)))) (s .a) 0x2502 32 (s .a + 2) (search needs))
+    (axis (λ q. getD (s .cells .now) (s .base + q) 0) (indexed (s .i) (s .a - 1 - length (digits (s .i)))) (s .a) (s .axis) 32 (s .a + 2) (search needs))
     (rw (w .wide .ensures, w .before .digits .ensures) at (m .label-same .ensures)) (c .if1 .left)
 
 pub center-same-spec : {M : Type 1} → statement M

@@ -14,12 +14,12 @@ use Rattle.picture_edges.proofs.side.plains_same.Statement.{statement}
 use Rattle.picture_edges.proofs.side.plains_same.Tie as tie
 
 abbrev Inv-loop : tie.InvT-loop
-Inv-loop cells width a top end y₀ y =
+Inv-loop cells width a axis top end y₀ y =
     let f : ℕ → ℕ → ℕ = λ x y. getD cells (y * width + x) 0 in
-    alikeIn f (λ x y. plainSide a x) 0 (a + 2) top end ≡ alikeIn f (λ x y. plainSide a x) 0 (a + 2) y end
+    alikeIn f (λ x y. plainSide axis a x) 0 (a + 2) top end ≡ alikeIn f (λ x y. plainSide axis a x) 0 (a + 2) y end
 
 abbrev μ-loop : tie.MeasureT-loop
-μ-loop cells width a top end y₀ y = end - y
+μ-loop cells width a axis top end y₀ y = end - y
 
 loop-holds : tie.Need-loop-holds Inv-loop μ-loop
 loop-holds c = refl
@@ -45,7 +45,7 @@ returns c =
     let s = i .before .before .before .args in
     let l = i .before .loop in
     let f : ℕ → ℕ → ℕ = λ x y. getD (s .cells .now) (y * s .width + x) 0 in
-    then-no _ (l .inv ∙ in-first f (λ x y. plainSide (s .a) x) 0 (s .a + 2) (l .y) (s .end) (search needs)) (c .before .line-same .ensures) (not-true _ (c .if1 .taken))
+    then-no _ (l .inv ∙ in-first f (λ x y. plainSide (s .axis) (s .a) x) 0 (s .a + 2) (l .y) (s .end) (search needs)) (c .before .line-same .ensures) (not-true _ (c .if1 .taken))
 
 add-y : tie.Need-add-y Inv-loop μ-loop
 add-y c = search needs
@@ -59,13 +59,13 @@ loop-again c =
     let s = i .before .before .before .args in
     let l = i .before .loop in
     let f : ℕ → ℕ → ℕ = λ x y. getD (s .cells .now) (y * s .width + x) 0 in
-    then-on (l .inv ∙ in-first f (λ x y. plainSide (s .a) x) 0 (s .a + 2) (l .y) (s .end) (search needs)) (c .before .line-same .ensures) (not-false _ (c .if1 .left))
+    then-on (l .inv ∙ in-first f (λ x y. plainSide (s .axis) (s .a) x) 0 (s .a + 2) (l .y) (s .end) (search needs)) (c .before .line-same .ensures) (not-false _ (c .if1 .left))
 
 returns-2 : tie.Need-returns-2 Inv-loop μ-loop
 returns-2 c =
     let s = c .before .before .before .args in
     let l = c .before .loop in
-    sym (l .inv ∙ in-none (λ x y. getD (s .cells .now) (y * s .width + x) 0) (λ x y. plainSide (s .a) x) 0 (s .a + 2) (l .y) (s .end) (omega arith))
+    sym (l .inv ∙ in-none (λ x y. getD (s .cells .now) (y * s .width + x) 0) (λ x y. plainSide (s .axis) (s .a) x) 0 (s .a + 2) (l .y) (s .end) (omega arith))
 
 pub plains-same-spec : {M : Type 1} → statement M
 plains-same-spec =

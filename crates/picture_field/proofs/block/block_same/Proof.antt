@@ -3,6 +3,7 @@ use Prim.Native.Nat.{_+_}
 use mathlib.Core.Path.{sym, _∙_}
 use native.Mathlib.Omega.{arith}
 use lib.ListN.{length}
+use Rattle.rules.specs.Look.{marksIn}
 use Rattle.picture_field.proofs.Down.{rows-within}
 use Rattle.marks.proofs.Alike.{in-split}
 use Rattle.picture_field.specs.Fits.{markIn, spotIn}
@@ -43,7 +44,7 @@ returns c =
     let a = s .args in
     let f = s .pre .2 in
     let t = f .stands (c .before .before .before .before .if1 .taken) in
-    sym (in-split (markIn (a .cells .now) (a .width)) (spotIn (a .cells .now) (a .width) (a .s)) (a .a) (a .b) (a .top) (a .s .bottom + 1) (a .end) (omega arith) (omega arith)
+    sym (in-split (markIn (a .cells .now) (a .width)) (spotIn (marksIn (a .g)) (a .cells .now) (a .width) (a .s)) (a .a) (a .b) (a .top) (a .s .bottom + 1) (a .end) (omega arith) (omega arith)
     ∙ rw (← c .before .before .before .box-same .ensures, c .before .before .if2 .taken, ← c .gap-same .ensures))
 
 returns-2 : tie.Need-returns-2
@@ -52,7 +53,7 @@ returns-2 c =
     let a = s .args in
     let f = s .pre .2 in
     let t = f .stands (c .before .before .if1 .taken) in
-    sym (in-split (markIn (a .cells .now) (a .width)) (spotIn (a .cells .now) (a .width) (a .s)) (a .a) (a .b) (a .top) (a .s .bottom + 1) (a .end) (omega arith) (omega arith)
+    sym (in-split (markIn (a .cells .now) (a .width)) (spotIn (marksIn (a .g)) (a .cells .now) (a .width) (a .s)) (a .a) (a .b) (a .top) (a .s .bottom + 1) (a .end) (omega arith) (omega arith)
     ∙ rw (← c .before .box-same .ensures, c .if2 .left))
 
 gap-same-requires-2 : tie.Need-gap-same-requires-2

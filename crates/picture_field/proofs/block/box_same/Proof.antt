@@ -3,6 +3,7 @@ use Prim.Native.Nat.{_+_}
 use mathlib.Core.Path.{sym, _∙_}
 use native.Mathlib.Omega.{arith}
 use lib.ListN.{length}
+use Rattle.rules.specs.Look.{marksIn}
 use Rattle.marks.proofs.Cells.{row-within}
 use Rattle.picture_field.proofs.Down.{rows-within}
 use Rattle.picture_field.proofs.Blocks.{box-rows}
@@ -83,7 +84,7 @@ returns c =
     let e2 = rw (c .before .before .before .before .before .before .before .before .before .before .before .before .span-of .ensures, c .before .before .before .before .before .before .top-edge .ensures) at (c .before .before .before .before .before .edge-same .ensures) in
     let e3 = rw (c .before .before .before .before .before .before .before .before .before .before .before .before .span-of .ensures) at (c .before .before .before .texts-same .ensures) in
     let e4 = rw (c .before .before .before .before .before .before .before .before .before .before .before .before .span-of .ensures, c .before .bottom-edge .ensures) at (c .edge-same2 .ensures) in
-    sym (box-rows (a .cells .now) (a .width) (a .s) (a .a) (a .b) (s .pre .0 .1) (a .top) (s .pre .0 .0) (s .pre .0 .2)
+    sym (box-rows (marksIn (a .g)) (a .cells .now) (a .width) (a .s) (a .a) (a .b) (s .pre .0 .1) (a .top) (s .pre .0 .0) (s .pre .0 .2)
     ∙ rw (← e1, c .before .before .before .before .before .before .before .if1 .taken, ← e2, c .before .before .before .before .if2 .taken, ← e3, c .before .before .if3 .taken, ← e4))
 
 returns-2 : tie.Need-returns-2
@@ -93,7 +94,7 @@ returns-2 c =
     let e1 = rw (c .before .before .before .before .before .before .before .before .before .before .span-of .ensures, c .before .before .before .before .before .before .before .straight-wire .ensures) at (c .before .before .before .before .before .before .wires-same .ensures) in
     let e2 = rw (c .before .before .before .before .before .before .before .before .before .before .span-of .ensures, c .before .before .before .before .top-edge .ensures) at (c .before .before .before .edge-same .ensures) in
     let e3 = rw (c .before .before .before .before .before .before .before .before .before .before .span-of .ensures) at (c .before .texts-same .ensures) in
-    sym (box-rows (a .cells .now) (a .width) (a .s) (a .a) (a .b) (s .pre .0 .1) (a .top) (s .pre .0 .0) (s .pre .0 .2)
+    sym (box-rows (marksIn (a .g)) (a .cells .now) (a .width) (a .s) (a .a) (a .b) (s .pre .0 .1) (a .top) (s .pre .0 .0) (s .pre .0 .2)
     ∙ rw (← e1, c .before .before .before .before .before .if1 .taken, ← e2, c .before .before .if2 .taken, ← e3, c .if3 .left))
 
 returns-3 : tie.Need-returns-3
@@ -102,7 +103,7 @@ returns-3 c =
     let a = s .args in
     let e1 = rw (c .before .before .before .before .before .before .before .before .span-of .ensures, c .before .before .before .before .before .straight-wire .ensures) at (c .before .before .before .before .wires-same .ensures) in
     let e2 = rw (c .before .before .before .before .before .before .before .before .span-of .ensures, c .before .before .top-edge .ensures) at (c .before .edge-same .ensures) in
-    sym (box-rows (a .cells .now) (a .width) (a .s) (a .a) (a .b) (s .pre .0 .1) (a .top) (s .pre .0 .0) (s .pre .0 .2)
+    sym (box-rows (marksIn (a .g)) (a .cells .now) (a .width) (a .s) (a .a) (a .b) (s .pre .0 .1) (a .top) (s .pre .0 .0) (s .pre .0 .2)
     ∙ rw (← e1, c .before .before .before .if1 .taken, ← e2, c .if2 .left))
 
 returns-4 : tie.Need-returns-4
@@ -110,7 +111,7 @@ returns-4 c =
     let s = c .before .before .before .before .before .before .before in
     let a = s .args in
     let e1 = rw (c .before .before .before .before .before .span-of .ensures, c .before .before .straight-wire .ensures) at (c .before .wires-same .ensures) in
-    sym (box-rows (a .cells .now) (a .width) (a .s) (a .a) (a .b) (s .pre .0 .1) (a .top) (s .pre .0 .0) (s .pre .0 .2)
+    sym (box-rows (marksIn (a .g)) (a .cells .now) (a .width) (a .s) (a .a) (a .b) (s .pre .0 .1) (a .top) (s .pre .0 .0) (s .pre .0 .2)
     ∙ rw (← e1, c .if1 .left))
 
 pub box-same-spec : {M : Type 1} → statement M

@@ -3,6 +3,7 @@ use Prim.Native.Nat.{_+_}
 use mathlib.Core.Path.{sym, _∙_}
 use native.Mathlib.Omega.{arith}
 use lib.ListN.{length}
+use Rattle.rules.specs.Look.{marksIn}
 use Rattle.picture_field.proofs.Down.{rows-within}
 use Rattle.picture_field.proofs.Blocks.{short-rows, gap-rows}
 use borrow.Author.Needs.{needs}
@@ -40,7 +41,10 @@ straight-wire-requires : tie.Need-straight-wire-requires
 straight-wire-requires c κs = search needs
 
 add-wires-same-2 : tie.Need-add-wires-same-2
-add-wires-same-2 c = search needs
+add-wires-same-2 c =
+    let s = c .before .before .before .before .before .before .before .before .before .before .before in
+    let i = s .fits in
+    record { fits = omega (arith, c .before .before .before .before .before .before .if1 .taken) }
 
 wires-same-requires-3 : tie.Need-wires-same-requires-3
 wires-same-requires-3 c κs =
@@ -55,7 +59,7 @@ returns c =
     let e1 = rw (c .before .before .before .before .before .before .before .before .before .before .span-of .ensures, c .before .before .before .before .before .before .before .before .foot-wire .ensures) at (c .before .before .before .before .before .before .wires-same .ensures) in
     let e2 = rw (c .before .before .before .before .before .before .before .before .before .before .span-of .ensures, c .before .before .before .before .bend-wire .ensures) at (c .before .before .before .wires-same2 .ensures) in
     let e3 = rw (c .before .before .before .before .before .before .before .before .before .before .span-of .ensures, c .before .straight-wire .ensures) at (c .wires-same3 .ensures) in
-    sym (gap-rows (a .cells .now) (a .width) (a .s) (a .a) (a .b) (s .pre .0 .1) (a .from) (a .end) (s .pre .0 .0) (s .pre .0 .2) (c .before .before .before .before .before .before .before .if1 .taken)
+    sym (gap-rows (marksIn (a .g)) (a .cells .now) (a .width) (a .s) (a .a) (a .b) (s .pre .0 .1) (a .from) (a .end) (s .pre .0 .0) (s .pre .0 .2) (c .before .before .before .before .before .before .before .if1 .taken)
     ∙ rw (← e1, c .before .before .before .before .before .if2 .taken, ← e2, c .before .before .if3 .taken, ← e3))
 
 returns-2 : tie.Need-returns-2
@@ -64,7 +68,7 @@ returns-2 c =
     let a = s .args in
     let e1 = rw (c .before .before .before .before .before .before .before .before .span-of .ensures, c .before .before .before .before .before .before .foot-wire .ensures) at (c .before .before .before .before .wires-same .ensures) in
     let e2 = rw (c .before .before .before .before .before .before .before .before .span-of .ensures, c .before .before .bend-wire .ensures) at (c .before .wires-same2 .ensures) in
-    sym (gap-rows (a .cells .now) (a .width) (a .s) (a .a) (a .b) (s .pre .0 .1) (a .from) (a .end) (s .pre .0 .0) (s .pre .0 .2) (c .before .before .before .before .before .if1 .taken)
+    sym (gap-rows (marksIn (a .g)) (a .cells .now) (a .width) (a .s) (a .a) (a .b) (s .pre .0 .1) (a .from) (a .end) (s .pre .0 .0) (s .pre .0 .2) (c .before .before .before .before .before .if1 .taken)
     ∙ rw (← e1, c .before .before .before .if2 .taken, ← e2, c .if3 .left))
 
 returns-3 : tie.Need-returns-3
@@ -72,7 +76,7 @@ returns-3 c =
     let s = c .before .before .before .before .before .before .before in
     let a = s .args in
     let e1 = rw (c .before .before .before .before .before .span-of .ensures, c .before .before .before .foot-wire .ensures) at (c .before .wires-same .ensures) in
-    sym (gap-rows (a .cells .now) (a .width) (a .s) (a .a) (a .b) (s .pre .0 .1) (a .from) (a .end) (s .pre .0 .0) (s .pre .0 .2) (c .before .before .if1 .taken)
+    sym (gap-rows (marksIn (a .g)) (a .cells .now) (a .width) (a .s) (a .a) (a .b) (s .pre .0 .1) (a .from) (a .end) (s .pre .0 .0) (s .pre .0 .2) (c .before .before .if1 .taken)
     ∙ rw (← e1, c .if2 .left))
 
 wires-same-requires-4 : tie.Need-wires-same-requires-4
@@ -86,7 +90,7 @@ returns-4 c =
     let s = c .before .before .before .before .before .before in
     let a = s .args in
     let e1 = rw (c .before .before .before .before .span-of .ensures, c .before .before .foot-wire .ensures) at (c .wires-same4 .ensures) in
-    e1 ∙ sym (short-rows (a .cells .now) (a .width) (a .s) (a .a) (a .b) (s .pre .0 .1) (a .from) (a .end) (s .pre .0 .0) (c .before .if1 .left))
+    e1 ∙ sym (short-rows (marksIn (a .g)) (a .cells .now) (a .width) (a .s) (a .a) (a .b) (s .pre .0 .1) (a .from) (a .end) (s .pre .0 .0) (c .before .if1 .left))
 
 pub gap-same-spec : {M : Type 1} → statement M
 gap-same-spec =

@@ -14,12 +14,12 @@ sides-same-requires c κs = search needs
 returns : tie.Need-returns
 returns c =
     let a = c .before .before .before .before .args in
-    sym (text-whole (a .cells .now) (a .base) (a .p) (c .before .before .before .before .pre .0) ∙ rw (← c .before .before .beside-same .ensures, c .before .if1 .taken, ← c .sides-same .ensures))
+    sym (text-whole (a .cells .now) (a .base) (a .p) (c .before .before .before .before .pre .0) (a .side) ∙ rw (← c .before .before .beside-same .ensures, c .before .if1 .taken, ← c .sides-same .ensures))
 
 returns-2 : tie.Need-returns-2
 returns-2 c =
     let a = c .before .before .before .args in
-    sym (text-whole (a .cells .now) (a .base) (a .p) (c .before .before .before .pre .0) ∙ rw (← c .before .beside-same .ensures, c .if1 .left))
+    sym (text-whole (a .cells .now) (a .base) (a .p) (c .before .before .before .pre .0) (a .side) ∙ rw (← c .before .beside-same .ensures, c .if1 .left))
 
 pub text-same-spec : {M : Type 1} → statement M
 text-same-spec = tie.close (tie.spec beside-same-requires sides-same-requires returns returns-2)

@@ -14,12 +14,12 @@ use Rattle.picture_field.proofs.edge.texts_same.Statement.{statement}
 use Rattle.picture_field.proofs.edge.texts_same.Tie as tie
 
 abbrev Inv-loop : tie.InvT-loop
-Inv-loop cells width p from to y₀ y =
-    alikeIn (markIn cells width) (λ x y. textMark (p .left) (p .right) (markIn cells width x y) x) (p .a) (p .b) from to
-    ≡ alikeIn (markIn cells width) (λ x y. textMark (p .left) (p .right) (markIn cells width x y) x) (p .a) (p .b) y to
+Inv-loop cells width p side from to y₀ y =
+    alikeIn (markIn cells width) (λ x y. textMark side (p .left) (p .right) (markIn cells width x y) x) (p .a) (p .b) from to
+    ≡ alikeIn (markIn cells width) (λ x y. textMark side (p .left) (p .right) (markIn cells width x y) x) (p .a) (p .b) y to
 
 abbrev μ-loop : tie.MeasureT-loop
-μ-loop cells width p from to y₀ y = to - y
+μ-loop cells width p side from to y₀ y = to - y
 
 loop-holds : tie.Need-loop-holds Inv-loop μ-loop
 loop-holds c =
@@ -46,19 +46,19 @@ loop-again : tie.Need-loop-again Inv-loop μ-loop
 loop-again c =
     let a = c .before .before .before .before .before .args in
     let l = c .before .before .before .loop in
-    l .inv ∙ rows-past (markIn (a .cells .now) (a .width)) (λ x y. textMark (a .p .left) (a .p .right) (markIn (a .cells .now) (a .width) x y) x) (a .p .a) (a .p .b) (l .y) (a .to) (c .before .before .loop-test .taken) (c .before .text-same .ensures) (c .if1 .taken)
+    l .inv ∙ rows-past (markIn (a .cells .now) (a .width)) (λ x y. textMark (a .side) (a .p .left) (a .p .right) (markIn (a .cells .now) (a .width) x y) x) (a .p .a) (a .p .b) (l .y) (a .to) (c .before .before .loop-test .taken) (c .before .text-same .ensures) (c .if1 .taken)
 
 returns : tie.Need-returns Inv-loop μ-loop
 returns c =
     let a = c .before .before .before .before .before .args in
     let l = c .before .before .before .loop in
-    sym (l .inv ∙ rows-stop (markIn (a .cells .now) (a .width)) (λ x y. textMark (a .p .left) (a .p .right) (markIn (a .cells .now) (a .width) x y) x) (a .p .a) (a .p .b) (l .y) (a .to) (c .before .before .loop-test .taken) (c .before .text-same .ensures) (c .if1 .left))
+    sym (l .inv ∙ rows-stop (markIn (a .cells .now) (a .width)) (λ x y. textMark (a .side) (a .p .left) (a .p .right) (markIn (a .cells .now) (a .width) x y) x) (a .p .a) (a .p .b) (l .y) (a .to) (c .before .before .loop-test .taken) (c .before .text-same .ensures) (c .if1 .left))
 
 returns-2 : tie.Need-returns-2 Inv-loop μ-loop
 returns-2 c =
     let a = c .before .before .before .args in
     let l = c .before .loop in
-    sym (l .inv ∙ in-none (markIn (a .cells .now) (a .width)) (λ x y. textMark (a .p .left) (a .p .right) (markIn (a .cells .now) (a .width) x y) x) (a .p .a) (a .p .b) (l .y) (a .to) (c .loop-test .left))
+    sym (l .inv ∙ in-none (markIn (a .cells .now) (a .width)) (λ x y. textMark (a .side) (a .p .left) (a .p .right) (markIn (a .cells .now) (a .width) x y) x) (a .p .a) (a .p .b) (l .y) (a .to) (c .loop-test .left))
 
 pub texts-same-spec : {M : Type 1} → statement M
 texts-same-spec =

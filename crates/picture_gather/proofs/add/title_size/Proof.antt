@@ -1,13 +1,16 @@
 -- The tests come one after another; each answer is the title's size by the tests that are passed.
+use mathlib.Core.Path.{refl}
 use native.Mathlib.Omega.{arith}
+use Rattle.rules.specs.Look.{lenOf}
 use Rattle.picture_sight.specs.Seen.{seen}
-use Rattle.picture_gather.proofs.Titles.{half-le, size-lined, size-beside, size-long, size-loose, size-is}
+use Rattle.picture_sight.proofs.Letters.{seen-held}
+use Rattle.picture_gather.proofs.Titles.{half-le, longest-by, size-lined, size-beside, size-long, size-loose, size-is}
 use borrow.Author.Needs.{needs}
 use Rattle.picture_gather.proofs.add.title_size.Statement.{statement}
 use Rattle.picture_gather.proofs.add.title_size.Tie as tie
 
 returns : tie.Need-returns
-returns c = size-lined _ _ _ _ _ _ (c .if1 .taken)
+returns c = size-lined _ _ _ _ _ _ _ (c .if1 .taken)
 
 half-up-requires : tie.Need-half-up-requires
 half-up-requires c κs = search needs
@@ -15,10 +18,10 @@ half-up-requires c κs = search needs
 add-if2 : tie.Need-add-if2
 add-if2 c =
     let s = c .before .before .before .before .before in
-    record { fits = omega (arith, half-le (s .args .l .cells), c .before .half-up .ensures, s .pre .1) }
+    record { fits = omega (arith, half-le (s .args .l .cells), c .before .half-up .ensures, s .pre .0 .1) }
 
 returns-2 : tie.Need-returns-2
-returns-2 c = size-beside _ _ _ _ _ _ (c .before .before .before .if1 .left) (c .before .before .half-up .ensures) (c .if2 .taken)
+returns-2 c = size-beside _ _ _ _ _ _ _ (c .before .before .before .if1 .left) (c .before .before .half-up .ensures) (c .if2 .taken)
 
 add-block-sizes : tie.Need-add-block-sizes
 add-block-sizes c = search needs
@@ -30,22 +33,31 @@ returns-3 : tie.Need-returns-3
 returns-3 c =
     let s = c .before .before .before .before .before .before .before .before .before .before .args in
     let b = c .before .before in
-    size-long (seen (s .cells .now) (s .width) (s .height)) _ _ _ _ _ (b .before .before .before .before .before .if1 .left) (b .before .before .before .before .half-up .ensures) (b .before .before .if2 .left) (b .block-sizes .ensures .0) (b .block-sizes .ensures .1) (c .if3 .taken)
+    size-long (lenOf (s .measure)) (seen (s .cells .now) (s .width) (s .height)) _ _ _ _ _ (b .before .before .before .before .before .if1 .left) (b .before .before .before .before .half-up .ensures) (b .before .before .if2 .left) (b .block-sizes .ensures .0) refl (c .if3 .taken)
+
+longest-of-requires : tie.Need-longest-of-requires
+longest-of-requires c κs = search needs
 
 wide-requires : tie.Need-wide-requires
 wide-requires c κs = search needs
 
 returns-4 : tie.Need-returns-4
 returns-4 c =
-    let s = c .before .before .before .before .before .before .before .before .before .before .before .before .before .args in
-    let b = c .before .before .before .before .before in
-    size-loose (seen (s .cells .now) (s .width) (s .height)) _ _ _ _ _ (b .before .before .before .before .before .if1 .left) (b .before .before .before .before .half-up .ensures) (b .before .before .if2 .left) (b .block-sizes .ensures .0) (b .block-sizes .ensures .1) (c .before .before .before .if3 .left) (c .before .before .wide .ensures) (c .if4 .taken)
+    let l = c .before .before in
+    let b = l .before .before .before in
+    let s = b .before .before .before .before .before .before .before .before in
+    let a = s .args in
+    let e = longest-by (a .measure) (seen (a .cells .now) (a .width) (a .height)) (seen-held (a .cells .now) (a .width) (a .height) (s .pre .1)) _ _ _ _ (l .longest-of .ensures) (b .block-sizes .ensures .1 .0) (b .block-sizes .ensures .1 .1) in
+    size-loose (lenOf (a .measure)) (seen (a .cells .now) (a .width) (a .height)) _ _ _ _ _ (b .before .before .before .before .before .if1 .left) (b .before .before .before .before .half-up .ensures) (b .before .before .if2 .left) (b .block-sizes .ensures .0) e (l .before .if3 .left) (c .before .wide .ensures) (c .if4 .taken)
 
 returns-5 : tie.Need-returns-5
 returns-5 c =
-    let s = c .before .before .before .before .before .before .before .before .before .before .before .before .before .args in
-    let b = c .before .before .before .before .before in
-    size-is (seen (s .cells .now) (s .width) (s .height)) _ _ _ _ _ (b .before .before .before .before .before .if1 .left) (b .before .before .before .before .half-up .ensures) (b .before .before .if2 .left) (b .block-sizes .ensures .0) (b .block-sizes .ensures .1) (c .before .before .before .if3 .left) (c .before .before .wide .ensures) (c .if4 .left)
+    let l = c .before .before in
+    let b = l .before .before .before in
+    let s = b .before .before .before .before .before .before .before .before in
+    let a = s .args in
+    let e = longest-by (a .measure) (seen (a .cells .now) (a .width) (a .height)) (seen-held (a .cells .now) (a .width) (a .height) (s .pre .1)) _ _ _ _ (l .longest-of .ensures) (b .block-sizes .ensures .1 .0) (b .block-sizes .ensures .1 .1) in
+    size-is (lenOf (a .measure)) (seen (a .cells .now) (a .width) (a .height)) _ _ _ _ _ (b .before .before .before .before .before .if1 .left) (b .before .before .before .before .half-up .ensures) (b .before .before .if2 .left) (b .block-sizes .ensures .0) e (l .before .if3 .left) (c .before .wide .ensures) (c .if4 .left)
 
 pub title-size-spec : {M : Type 1} → statement M
 title-size-spec =
@@ -58,6 +70,7 @@ title-size-spec =
     add-block-sizes
     block-sizes-requires
     returns-3
+    longest-of-requires
     wide-requires
     returns-4
     returns-5)

@@ -2,6 +2,7 @@
 use mathlib.Core.Path.{_≡_, refl}
 use mathlib.Core.Bool.{false}
 use Prim.Native.Nat.{_≤_, _-_}
+use Rattle.rules.specs.Look.{lenOf, marksIn}
 use Rattle.picture_gather.specs.Partly.{cellsBefore, Partly}
 use native.Mathlib.Omega.{arith}
 use Rattle.picture_gather.proofs.Steps.{answer-first, bad-whole, answer-all}
@@ -10,17 +11,17 @@ use Rattle.picture_gather.proofs.collect.gather.Statement.{statement}
 use Rattle.picture_gather.proofs.collect.gather.Tie as tie
 
 abbrev Inv-loop : tie.InvT-loop
-Inv-loop cells width height cx ncols band cy nrows table₀ middle₀ lines₀ longest₀ c₀ j₀ table middle lines longest c j =
-    (j ≤ ncols) × (c .bad ≡ false) × Partly cells width height (cellsBefore cells width height j 0) (c .nodes) (c .bytes) table middle lines longest
+Inv-loop cells width height measure g cx ncols band cy nrows table₀ middle₀ lines₀ longest₀ c₀ j₀ table middle lines longest c j =
+    (j ≤ ncols) × (c .bad ≡ false) × Partly (lenOf measure) cells width height (cellsBefore (marksIn g) cells width height j 0) (c .nodes) (c .bytes) table middle lines longest
 
 abbrev μ-loop : tie.MeasureT-loop
-μ-loop cells width height cx ncols band cy nrows table₀ middle₀ lines₀ longest₀ c₀ j₀ table middle lines longest c j =
+μ-loop cells width height measure g cx ncols band cy nrows table₀ middle₀ lines₀ longest₀ c₀ j₀ table middle lines longest c j =
     ncols - j
 
 loop-holds : tie.Need-loop-holds Inv-loop μ-loop
 loop-holds c =
     let s = c .before in
-    (omega arith, refl, answer-first _ _ _ (s .pre .1 .0) (s .pre .1 .1) (s .pre .1 .2) (s .pre .1 .3))
+    (omega arith, refl, answer-first _ _ _ _ _ (s .pre .1 .0) (s .pre .1 .1) (s .pre .1 .2) (s .pre .1 .3))
 
 gather-column-requires : tie.Need-gather-column-requires Inv-loop μ-loop
 gather-column-requires c κs =
@@ -44,7 +45,7 @@ returns-2 : tie.Need-returns-2 Inv-loop μ-loop
 returns-2 c =
     let s = c .before .before .before in
     let l = c .before .loop in
-    answer-all _ _ _ (l .inv .1) (l .j) (omega (arith, s .pre .0 .1)) (l .inv .2)
+    answer-all _ _ _ _ _ (l .inv .1) (l .j) (omega (arith, s .pre .0 .1)) (l .inv .2)
 
 pub gather-spec : {M : Type 1} → statement M
 gather-spec =

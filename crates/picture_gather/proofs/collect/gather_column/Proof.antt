@@ -2,6 +2,7 @@
 use mathlib.Core.Path.{_≡_}
 use mathlib.Core.Bool.{false}
 use Prim.Native.Nat.{_≤_, _-_}
+use Rattle.rules.specs.Look.{lenOf, marksIn}
 use Rattle.picture_gather.specs.Partly.{cellsBefore, Partly}
 use native.Mathlib.Omega.{arith}
 use Rattle.picture_gather.proofs.Steps.{answer-bad, answer-column}
@@ -10,11 +11,11 @@ use Rattle.picture_gather.proofs.collect.gather_column.Statement.{state
 use Rattle.picture_gather.proofs.collect.gather_column.Tie as tie
 
 abbrev Inv-loop : tie.InvT-loop
-Inv-loop cells width height cx j band cy nrows table₀ middle₀ lines₀ longest₀ c₀ i₀ table middle lines longest c i =
-    (i ≤ nrows) × (c .bad ≡ false) × Partly cells width height (cellsBefore cells width height j i) (c .nodes) (c .bytes) table middle lines longest
+Inv-loop cells width height measure g cx j band cy nrows table₀ middle₀ lines₀ longest₀ c₀ i₀ table middle lines longest c i =
+    (i ≤ nrows) × (c .bad ≡ false) × Partly (lenOf measure) cells width height (cellsBefore (marksIn g) cells width height j i) (c .nodes) (c .bytes) table middle lines longest
 
 abbrev μ-loop : tie.MeasureT-loop
-μ-loop cells width height cx j band cy nrows table₀ middle₀ lines₀ longest₀ c₀ i₀ table middle lines longest c i =
+μ-loop cells width height measure g cx j band cy nrows table₀ middle₀ lines₀ longest₀ c₀ i₀ table middle lines longest c i =
     nrows - i
 
 loop-holds : tie.Need-loop-holds Inv-loop μ-loop
@@ -44,7 +45,7 @@ returns-2 : tie.Need-returns-2 Inv-loop μ-loop
 returns-2 c =
     let s = c .before .before .before in
     let l = c .before .loop in
-    answer-column _ _ _ (l .inv .1) (s .args .j) (l .i) (omega (arith, s .pre .0 .2)) (l .inv .2)
+    answer-column _ _ _ _ _ (l .inv .1) (s .args .j) (l .i) (omega (arith, s .pre .0 .2)) (l .inv .2)
 
 pub gather-column-spec : {M : Type 1} → statement M
 gather-column-spec =

@@ -1,4 +1,5 @@
 -- The edges refuse the drawing, or the bands tell.
+use Rattle.rules.specs.Look.{lenOf, marksIn}
 use Rattle.picture_sight.specs.Seen.{seen}
 use Rattle.picture_sight.specs.Plan.{planSeen}
 use Rattle.picture_same.proofs.Told.{edges-tell, bands-tell}
@@ -15,7 +16,7 @@ returns : tie.Need-returns
 returns c =
     let s = c .before .before .before .before .before in
     let a = s .args in
-    bands-tell (planSeen (a .cells .now) (a .width) (a .height)) (s .pre .1 .drawable) (seen (a .cells .now) (a .width) (a .height)) (a .width) (a .height)
+    bands-tell (lenOf (a .measure)) (marksIn (a .g)) (planSeen (marksIn (a .g)) (a .cells .now) (a .width) (a .height)) (s .pre .1 .drawable) (seen (a .cells .now) (a .width) (a .height)) (a .width) (a .height)
     (c .before .before .edges-same .result) (c .bands-same .result) (s .pre .1 .numbers .wide) (s .pre .1 .numbers .high)
     (c .before .before .edges-same .ensures) (c .before .if1 .taken) (c .bands-same .ensures)
 
@@ -23,7 +24,7 @@ returns-2 : tie.Need-returns-2
 returns-2 c =
     let s = c .before .before .before .before in
     let a = s .args in
-    edges-tell (planSeen (a .cells .now) (a .width) (a .height)) (s .pre .1 .drawable) (seen (a .cells .now) (a .width) (a .height)) (a .width) (a .height)
+    edges-tell (lenOf (a .measure)) (marksIn (a .g)) (planSeen (marksIn (a .g)) (a .cells .now) (a .width) (a .height)) (s .pre .1 .drawable) (seen (a .cells .now) (a .width) (a .height)) (a .width) (a .height)
     (c .before .edges-same .result) (c .before .edges-same .ensures) (c .if1 .left)
 
 pub compared-spec : {M : Type 1} → statement M

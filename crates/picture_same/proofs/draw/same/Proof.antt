@@ -1,6 +1,7 @@
 -- Each answer of levels and tree_view is the rules' for the plan that was gathered; then the size refuses the drawing, or the rest tells.
 use mathlib.Core.Path.{refl}
 use native.Mathlib.Omega.{arith}
+use Rattle.rules.specs.Look.{lenOf, marksIn}
 use Rattle.picture_sight.specs.Seen.{seen}
 use Rattle.picture_sight.specs.Plan.{planSeen}
 use Rattle.tree_view.proofs.Limits.{columns-le, rows-le}
@@ -92,7 +93,7 @@ matches-requires c κs =
     let r = rows-view v _ (o .rows .ensures) in
     let k = columns-laid v _ _ _ _ _ _ (q .columns .ensures .1) (columns-view v _ (q .columns .ensures .0)) (digits-are v _ _ r (g .index-digits .ensures)) (u .tree-columns .ensures) in
     let l = rows-laid v _ _ r (t .tree-rows .ensures) in
-    let e = right-size (planSeen (s .args .cells .now) (s .args .width) (s .args .height)) (drawable v) (seen (s .args .cells .now) (s .args .width) (s .args .height)) (s .args .width) (s .args .height) _ (sizes-are v k l r _ (z .sized .ensures)) (i .if1 .taken) in
+    let e = right-size (lenOf (s .args .measure)) (marksIn (s .args .g)) (planSeen (marksIn (s .args .g)) (s .args .cells .now) (s .args .width) (s .args .height)) (drawable v) (seen (s .args .cells .now) (s .args .width) (s .args .height)) (s .args .width) (s .args .height) _ (sizes-are v k l r _ (z .sized .ensures)) (i .if1 .taken) in
     (v, (column-of v _ (q .columns .ensures .1), numbers v k l r _ (y .row-centers .ensures) (e .0) (e .1)))
 
 returns : tie.Need-returns
@@ -111,7 +112,7 @@ returns-2 c =
     let r = rows-view v _ (o .rows .ensures) in
     let k = columns-laid v _ _ _ _ _ _ (q .columns .ensures .1) (columns-view v _ (q .columns .ensures .0)) (digits-are v _ _ r (g .index-digits .ensures)) (u .tree-columns .ensures) in
     let l = rows-laid v _ _ r (t .tree-rows .ensures) in
-    other-size (planSeen (s .args .cells .now) (s .args .width) (s .args .height)) (drawable v) (seen (s .args .cells .now) (s .args .width) (s .args .height)) (s .args .width) (s .args .height) _ (sizes-are v k l r _ (z .sized .ensures)) (c .if1 .left)
+    other-size (lenOf (s .args .measure)) (marksIn (s .args .g)) (planSeen (marksIn (s .args .g)) (s .args .cells .now) (s .args .width) (s .args .height)) (drawable v) (seen (s .args .cells .now) (s .args .width) (s .args .height)) (s .args .width) (s .args .height) _ (sizes-are v k l r _ (z .sized .ensures)) (c .if1 .left)
 
 pub same-spec : {M : Type 1} → statement M
 same-spec =

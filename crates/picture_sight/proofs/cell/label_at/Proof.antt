@@ -1,4 +1,5 @@
 -- The first mark in the band is the top border, if there is one; the box's lines and sides are seen from there.
+use Rattle.rules.specs.Look.{marksIn}
 use Rattle.picture_sight.specs.Seen.{seen}
 use Rattle.picture_sight.proofs.Labels.{labelled-here, labelled-gone}
 use borrow.Author.Needs.{needs}
@@ -20,13 +21,13 @@ sides-at-requires c κs = search needs
 returns : tie.Need-returns
 returns c =
     let s = c .before .before .before .before .before .before .args in
-    labelled-here (seen (s .cells .now) (s .width) (s .height)) (s .width) (s .band) (s .cy) (s .cx) (c .before .before .before .before .less .ensures)
+    labelled-here (marksIn (s .g)) (seen (s .cells .now) (s .width) (s .height)) (s .width) (s .band) (s .cy) (s .cx) (c .before .before .before .before .less .ensures)
     (c .before .before .before .mark-below .ensures) (c .before .before .if1 .taken) (c .before .box-lines .ensures) (c .sides-at .ensures .0) (c .sides-at .ensures .1)
 
 returns-2 : tie.Need-returns-2
 returns-2 c =
     let s = c .before .before .before .before .args in
-    labelled-gone (seen (s .cells .now) (s .width) (s .height)) (s .width) (s .band) (s .cy) (s .cx) (c .before .before .less .ensures) (c .before .mark-below .ensures) (c .if1 .left)
+    labelled-gone (marksIn (s .g)) (seen (s .cells .now) (s .width) (s .height)) (s .width) (s .band) (s .cy) (s .cx) (c .before .before .less .ensures) (c .before .mark-below .ensures) (c .if1 .left)
 
 pub label-at-spec : {M : Type 1} → statement M
 label-at-spec =

@@ -1,6 +1,7 @@
 -- The corners are found from cx - 2 to the left and from cx + 1 to the right.
 use mathlib.Core.Path.{_≡_, _∙_}
 use native.Mathlib.Omega.{arith}
+use Rattle.rules.specs.Look.{marksIn}
 use Rattle.picture_sight.specs.Seen.{seen, leftSide, rightSide}
 use borrow.Author.Needs.{needs}
 use Rattle.picture_sight.proofs.part.sides_at.Statement.{statement}
@@ -18,8 +19,8 @@ add-right-corner c = search needs
 right-corner-requires : tie.Need-right-corner-requires
 right-corner-requires c κs = search needs
 
-add-t8 : tie.Need-add-t8
-add-t8 c = search needs
+add-first : tie.Need-add-first
+add-first c = search needs
 
 add-less : tie.Need-add-less
 add-less c = search needs
@@ -31,7 +32,7 @@ returns : tie.Need-returns
 unfolding leftSide rightSide
 returns c =
     let s = c .before .before .before .before .before .args in
-    let left : c .before .before .left-corner .result ≡ leftSide (seen (s .cells .now) (s .width) (s .height)) (s .cx) (s .top) = c .before .before .left-corner .ensures ∙ rw (c .before .before .before .less .ensures) in
+    let left : c .before .before .left-corner .result ≡ leftSide (marksIn (s .g)) (seen (s .cells .now) (s .width) (s .height)) (s .cx) (s .top) = c .before .before .left-corner .ensures ∙ rw (c .before .before .before .less .ensures) in
     (omega (arith, left), omega (arith, left, c .before .right-corner .ensures, c .less2 .ensures))
 
 pub sides-at-spec : {M : Type 1} → statement M
@@ -42,7 +43,7 @@ sides-at-spec =
     left-corner-requires
     add-right-corner
     right-corner-requires
-    add-t8
+    add-first
     add-less
     less-requires-2
     returns)

@@ -1,10 +1,13 @@
 -- A node without lines has no cell, and nothing is drawn; else the label is its cell's box.
-use mathlib.Core.Path.{_≡_, ap, _∙_}
+use mathlib.Core.Path.{_≡_, ap, sym, _∙_}
 use Prim.Native.Nat.{ℕ}
 use native.Mathlib.Omega.{arith}
 use lib.ListN.{getD}
 use Rattle.rules.specs.Plan.{depthIn, startIn, sizeIn}
+use Rattle.rules.specs.Look.{marksIn}
+use Rattle.text.proofs.Counted.{len-most}
 use Rattle.levels.proofs.Accepted.{depth-small, title-fits, node-fits}
+use Rattle.tree_view.proofs.Table.{title-at}
 use Rattle.tree_format.proofs.Boxes.{nothing-drawn, label-drawn, label-valid, label-lines, label-fits}
 use borrow.Author.Needs.{needs}
 use Rattle.tree_format.proofs.labels.label.Statement.{statement}
@@ -13,7 +16,7 @@ use Rattle.tree_format.proofs.labels.label.Tie as tie
 returns : tie.Need-returns
 returns c =
     let s = c .before .before .before .before in
-    nothing-drawn (s .pre .0 .1) (s .args .k) (s .pre .0 .2) (s .pre .1) (s .args .size .width) (s .args .size .height) (s .args .cells .now) (search needs) (c .if1 .taken)
+    nothing-drawn (len-most (s .args .style .measure)) (marksIn (s .args .style .marks)) (s .pre .0 .1) (s .args .k) (s .pre .0 .2) (s .pre .1) (s .args .size .width) (s .args .size .height) (s .args .cells .now) (search needs) (c .if1 .taken)
 
 mul-wide : tie.Need-mul-wide
 mul-wide c = search needs
@@ -53,9 +56,9 @@ draw-label-centered-requires c κs =
     let a = s .pre .0 .1 in
     let h = s .pre .0 .2 in
     let e = ap (λ (i : ℕ). getD (s .args .cy .now) i 0) (w .wide .ensures) in
-    let f = label-fits a (s .args .k) h (s .pre .1) (getD (s .args .cy .now) (w .wide .result) 0) e in (
-      (search needs, label-valid a (s .args .k) h (s .pre .1) _ (t .title .ensures)),
-      (label-lines a (s .args .k) h (s .pre .1) _ (w .before .before .if1 .left) (t .title .ensures), f),
+    let f = label-fits (len-most (s .args .style .measure)) (marksIn (s .args .style .marks)) a (s .args .k) h (s .pre .1) (getD (s .args .cy .now) (w .wide .result) 0) e in (
+      (search needs, label-valid (len-most (s .args .style .measure)) (marksIn (s .args .style .marks)) a (s .args .k) h (s .pre .1) _ (t .title .ensures ∙ sym (title-at (s .pre .0 .1) (s .args .k) (s .pre .0 .2)))),
+      (label-lines (len-most (s .args .style .measure)) (marksIn (s .args .style .marks)) a (s .args .k) h (s .pre .1) _ (w .before .before .if1 .left) (t .title .ensures ∙ sym (title-at (s .pre .0 .1) (s .args .k) (s .pre .0 .2))), f),
     )
 
 same-length : tie.Need-same-length
@@ -69,8 +72,8 @@ returns-2 c =
     let w = t .before .before in
     let s = w .before .before .before .before .before .before in
     let e = ap (λ (i : ℕ). getD (s .args .cy .now) i 0) (w .wide .ensures) in
-    rw (← label-drawn (s .pre .0 .1) (s .args .k) (s .pre .0 .2) (s .pre .1) (getD (s .args .cy .now) (w .wide .result) 0) (t .title .result .now)
-    (w .before .before .if1 .left) e (t .title .ensures))
+    rw (← label-drawn (len-most (s .args .style .measure)) (marksIn (s .args .style .marks)) (s .pre .0 .1) (s .args .k) (s .pre .0 .2) (s .pre .1) (getD (s .args .cy .now) (w .wide .result) 0) (t .title .result .now)
+    (w .before .before .if1 .left) e (t .title .ensures ∙ sym (title-at (s .pre .0 .1) (s .args .k) (s .pre .0 .2))))
     (d .draw-label-centered .ensures)
 
 pub label-spec : {M : Type 1} → statement M

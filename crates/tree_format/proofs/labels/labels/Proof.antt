@@ -3,6 +3,7 @@ use mathlib.Core.Path.{_≡_, refl}
 use Prim.Native.Nat.{_≤_, _-_}
 use native.Mathlib.Omega.{arith}
 use lib.ListN.{length}
+use Rattle.rules.specs.Look.{lenOf, marksIn}
 use Rattle.rules.specs.Plan.{planOf}
 use Rattle.canvas.specs.Stroked.{stroked}
 use Rattle.tree_format.proofs.Boxes.{boxesTo, boxes-none, boxes-more, boxes-all}
@@ -11,16 +12,16 @@ use Rattle.tree_format.proofs.labels.labels.Statement.{statement}
 use Rattle.tree_format.proofs.labels.labels.Tie as tie
 
 abbrev Inv-loop : tie.InvT-loop
-Inv-loop cells₀ size table nodes titles cy middle lines longest k₀ cells k =
-    (k ≤ nodes) × (length cells ≡ length cells₀) × (cells ≡ stroked (size .width) (size .height) (boxesTo (planOf table titles) k) cells₀)
+Inv-loop cells₀ size table nodes titles style cy middle lines longest k₀ cells k =
+    (k ≤ nodes) × (length cells ≡ length cells₀) × (cells ≡ stroked (size .width) (size .height) (boxesTo (lenOf (style .measure)) (marksIn (style .marks)) (planOf table titles) k) cells₀)
 
 abbrev μ-loop : tie.MeasureT-loop
-μ-loop cells₀ size table nodes titles cy middle lines longest k₀ cells k = nodes - k
+μ-loop cells₀ size table nodes titles style cy middle lines longest k₀ cells k = nodes - k
 
 loop-holds : tie.Need-loop-holds Inv-loop μ-loop
 loop-holds c =
     let a = c .before .before .before .args in
-    (search needs, refl, boxes-none (a .size .width) (a .size .height) (planOf (a .table .now) (a .titles .now)) (a .cells .now) (search needs))
+    (search needs, refl, boxes-none (lenOf (a .style .measure)) (marksIn (a .style .marks)) (a .size .width) (a .size .height) (planOf (a .table .now) (a .titles .now)) (a .cells .now) (search needs))
 
 mul-label : tie.Need-mul-label Inv-loop μ-loop
 mul-label c = search needs
@@ -59,7 +60,7 @@ loop-again c =
     let a = l .before .before .before .before .args in (
       search needs,
       search needs,
-      boxes-more (a .size .width) (a .size .height) (planOf (a .table .now) (a .titles .now)) (a .cells .now) (search needs)
+      boxes-more (lenOf (a .style .measure)) (marksIn (a .style .marks)) (a .size .width) (a .size .height) (planOf (a .table .now) (a .titles .now)) (a .cells .now) (search needs)
           (l .loop .k) (l .loop .cells) (b .label .last .0) (l .loop .inv .2) (b .label .ensures),
     )
 
@@ -70,7 +71,7 @@ returns : tie.Need-returns Inv-loop μ-loop
 returns c =
     let l = c .before .loop in
     let s = c .before .before .before .before .before in
-    rw (← boxes-all (s .pre .0 .1) (l .k) (omega arith)) (l .inv .2)
+    rw (← boxes-all (lenOf (s .args .style .measure)) (marksIn (s .args .style .marks)) (s .args .table .now) (s .args .titles .now) (l .k) (omega arith)) (l .inv .2)
 
 pub labels-spec : {M : Type 1} → statement M
 labels-spec =

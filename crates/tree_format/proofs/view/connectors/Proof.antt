@@ -4,6 +4,7 @@ use Prim.Native.Nat.{_+_, _-_, _≤_}
 use native.Mathlib.Omega.{arith}
 use lib.ListN.{length}
 use Rattle.rules.specs.Base.{each}
+use Rattle.rules.specs.Look.{marksIn}
 use Rattle.canvas.specs.Stroked.{stroked}
 use Rattle.connections.specs.Connect.{connectionsAt}
 use Rattle.tree_format.specs.Sized.{gapAt}
@@ -13,19 +14,19 @@ use Rattle.tree_format.proofs.view.connectors.Statement.{statement}
 use Rattle.tree_format.proofs.view.connectors.Tie as tie
 
 abbrev Inv-loop : tie.InvT-loop
-Inv-loop cells₀ size table nodes offset cy rows middle lines i₀ cells i =
+Inv-loop cells₀ size marks table nodes offset cy rows middle lines i₀ cells i =
     (i + 1 ≤ rows) × (length cells ≡ length cells₀)
-    × (cells ≡ stroked (size .width) (size .height) (each (λ i. connectionsAt middle lines (gapAt cy offset i) table nodes) i) cells₀)
+    × (cells ≡ stroked (size .width) (size .height) (each (λ i. connectionsAt (marksIn marks) middle lines (gapAt cy offset i) table nodes) i) cells₀)
 
 abbrev μ-loop : tie.MeasureT-loop
-μ-loop cells₀ size table nodes offset cy rows middle lines i₀ cells i = rows - i
+μ-loop cells₀ size marks table nodes offset cy rows middle lines i₀ cells i = rows - i
 
 loop-holds : tie.Need-loop-holds Inv-loop μ-loop
 loop-holds c =
     let a = c .before .before .args in (
       search needs,
       refl,
-      none-yet (a .size .width) (a .size .height) (λ i. connectionsAt (a .middle .now) (a .lines .now) (gapAt (a .cy .now) (a .offset .now) i) (a .table .now) (a .nodes))
+      none-yet (a .size .width) (a .size .height) (λ i. connectionsAt (marksIn (a .marks)) (a .middle .now) (a .lines .now) (gapAt (a .cy .now) (a .offset .now) i) (a .table .now) (a .nodes))
           (a .cells .now) (search needs),
     )
 
@@ -35,36 +36,36 @@ add-loop c = search needs
 wide-requires : tie.Need-wide-requires Inv-loop μ-loop
 wide-requires c κs = search needs
 
-mul-t15 : tie.Need-mul-t15 Inv-loop μ-loop
-mul-t15 c = search needs
+mul-t16 : tie.Need-mul-t16 Inv-loop μ-loop
+mul-t16 c = search needs
 
-element-copy-out-t13 : tie.Need-element-copy-out-t13 Inv-loop μ-loop
-element-copy-out-t13 c = search needs
+element-copy-out-t14 : tie.Need-element-copy-out-t14 Inv-loop μ-loop
+element-copy-out-t14 c = search needs
 
-add-t18 : tie.Need-add-t18 Inv-loop μ-loop
-add-t18 c = search needs
+add-t19 : tie.Need-add-t19 Inv-loop μ-loop
+add-t19 c = search needs
 
-mul-t19 : tie.Need-mul-t19 Inv-loop μ-loop
-mul-t19 c = search needs
+mul-t20 : tie.Need-mul-t20 Inv-loop μ-loop
+mul-t20 c = search needs
 
-element-copy-out-t22 : tie.Need-element-copy-out-t22 Inv-loop μ-loop
-element-copy-out-t22 c = search needs
+element-copy-out-t23 : tie.Need-element-copy-out-t23 Inv-loop μ-loop
+element-copy-out-t23 c = search needs
 
-sub-t23 : tie.Need-sub-t23 Inv-loop μ-loop
-sub-t23 c =
+sub-t24 : tie.Need-sub-t24 Inv-loop μ-loop
+sub-t24 c =
     let w = c .before .before in
     let l = w .before .before in
     let s = l .before .before .before in
     rw (w .wide .ensures) (s .pre .1 (l .loop .i) (search needs) .0)
 
-add-t24 : tie.Need-add-t24 Inv-loop μ-loop
-add-t24 c = search needs
+add-t25 : tie.Need-add-t25 Inv-loop μ-loop
+add-t25 c = search needs
 
-mul-t25 : tie.Need-mul-t25 Inv-loop μ-loop
-mul-t25 c = search needs
+mul-t26 : tie.Need-mul-t26 Inv-loop μ-loop
+mul-t26 c = search needs
 
-element-copy-out-t28 : tie.Need-element-copy-out-t28 Inv-loop μ-loop
-element-copy-out-t28 c = search needs
+element-copy-out-t29 : tie.Need-element-copy-out-t29 Inv-loop μ-loop
+element-copy-out-t29 c = search needs
 
 draw-connections-requires : tie.Need-draw-connections-requires Inv-loop μ-loop
 draw-connections-requires c κs =
@@ -87,7 +88,7 @@ loop-again c =
     let a = l .before .before .before .args in (
       search needs,
       search needs,
-      one-more (a .size .width) (a .size .height) (λ i. connectionsAt (a .middle .now) (a .lines .now) (gapAt (a .cy .now) (a .offset .now) i) (a .table .now) (a .nodes))
+      one-more (a .size .width) (a .size .height) (λ i. connectionsAt (marksIn (a .marks)) (a .middle .now) (a .lines .now) (gapAt (a .cy .now) (a .offset .now) i) (a .table .now) (a .nodes))
           (a .cells .now) (search needs) (l .loop .i) (l .loop .cells) (d .draw-connections .last .0) (l .loop .inv .2)
           (rw (w .wide .ensures) at (d .draw-connections .ensures)),
     )
@@ -109,15 +110,15 @@ connectors-spec =
     loop-holds
     add-loop
     wide-requires
-    mul-t15
-    element-copy-out-t13
-    add-t18
-    mul-t19
-    element-copy-out-t22
-    sub-t23
-    add-t24
-    mul-t25
-    element-copy-out-t28
+    mul-t16
+    element-copy-out-t14
+    add-t19
+    mul-t20
+    element-copy-out-t23
+    sub-t24
+    add-t25
+    mul-t26
+    element-copy-out-t29
     draw-connections-requires
     add-i
     loop-less

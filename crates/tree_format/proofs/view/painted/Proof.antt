@@ -2,6 +2,8 @@
 use mathlib.Core.Path.{refl}
 use native.Mathlib.Omega.{arith}
 use lib.ListN.{replicate}
+use Rattle.rules.specs.Look.{lenOf}
+use Rattle.text.proofs.Counted.{len-most}
 use Rattle.tree_view.proofs.Whole.{middles-ask}
 use Rattle.tree_format.proofs.Measures.{column-of, arrays}
 use borrow.Author.Needs.{needs}
@@ -13,8 +15,8 @@ middles-requires c κs =
     let s = c .before .before .before .before in
     let l = s .pre .1 .1 .0 in (
       omega (arith, s .pre .0 .1 .few, s .pre .0 .2),
-      middles-ask (s .pre .0 .1) (s .args .nodes) (s .pre .0 .2) (s .args .ncols) (l .count-is)
-          (s .args .cx .now) (replicate 256 0) (l .columns-are) refl (s .args .column .now) (λ k h. column-of (s .pre .0 .1) (s .pre .1 .0) k (omega (arith, s .pre .0 .2))),
+      middles-ask (s .pre .0 .1) (s .args .nodes) (s .pre .0 .2) (lenOf (s .args .style .measure)) (s .args .ncols) (l .count-is)
+          (s .args .cx .now) (replicate 256 0) (l .columns-are) refl (s .args .column .now) (λ k h. column-of (len-most (s .args .style .measure)) (s .pre .0 .1) (s .pre .1 .0) k (omega (arith, s .pre .0 .2))),
     )
 
 draw-view-requires : tie.Need-draw-view-requires
@@ -25,7 +27,7 @@ draw-view-requires c κs =
       (search needs, s .pre .0 .1, s .pre .0 .2, s .pre .0 .3),
       (
         (l .count-is, l .row-count-is),
-        (s .pre .1 .1 .1, arrays (s .pre .0 .1) (s .pre .1 .0) l (m .middles .last .1 .1 .1 .0) (rw (s .pre .0 .2) at (m .middles .ensures))),
+        (s .pre .1 .1 .1, arrays (len-most (s .args .style .measure)) (s .pre .0 .1) (s .pre .1 .0) l (m .middles .last .1 .1 .1 .0) (rw (s .pre .0 .2) at (m .middles .ensures))),
       ),
     )
 

@@ -4,6 +4,8 @@ use Prim.Native.Nat.{_≤_, _-_}
 use native.Mathlib.Omega.{arith}
 use lib.ListN.{length}
 use Rattle.rules.specs.Plan.{planOf}
+use Rattle.rules.specs.Look.{lenOf}
+use Rattle.text.specs.Counted.{counted}
 use Rattle.levels.specs.Filled.{filled}
 use Rattle.levels.proofs.Accepted.{title-fits, title-length, title-short, node-fits}
 use Rattle.tree_view.specs.Measured.{linesAt, longestAt, linesOfCell, longestOfCell}
@@ -14,11 +16,11 @@ use Rattle.tree_view.proofs.lines.measures.Statement.{statement}
 use Rattle.tree_view.proofs.lines.measures.Tie as tie
 
 abbrev Inv-loop : tie.InvT-loop
-Inv-loop table nodes titles lines₀ longest₀ k₀ lines longest k =
-    (k ≤ nodes) × (lines ≡ filled (linesAt (planOf table titles)) 0 k lines₀) × (longest ≡ filled (longestAt (planOf table titles)) 0 k longest₀)
+Inv-loop table nodes titles measure lines₀ longest₀ k₀ lines longest k =
+    (k ≤ nodes) × (lines ≡ filled (linesAt (planOf table titles)) 0 k lines₀) × (longest ≡ filled (longestAt (lenOf measure) (planOf table titles)) 0 k longest₀)
 
 abbrev μ-loop : tie.MeasureT-loop
-μ-loop table nodes titles lines₀ longest₀ k₀ lines longest k = nodes - k
+μ-loop table nodes titles measure lines₀ longest₀ k₀ lines longest k = nodes - k
 
 loop-holds : tie.Need-loop-holds Inv-loop μ-loop
 unfolding filled
@@ -62,7 +64,7 @@ loop-again c =
       fill-more _ (l .k) _ (l .lines) _ (l .inv .1)
           (c .measured .ensures .0 ∙ ap linesOfCell e ∙ sym (lines-title (s .pre .0) (l .k) (omega arith))),
       fill-more _ (l .k) _ (l .longest) _ (l .inv .2)
-          (c .measured .ensures .1 ∙ ap longestOfCell e ∙ sym (longest-title (s .pre .0) (l .k) (omega arith))),
+          (c .measured .ensures .1 ∙ ap (longestOfCell (counted (s .args .measure))) e ∙ sym (longest-title (s .pre .0) (s .args .measure) (l .k) (omega arith))),
     )
 
 returns : tie.Need-returns Inv-loop μ-loop

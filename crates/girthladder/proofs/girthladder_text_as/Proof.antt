@@ -1,0 +1,35 @@
+-- The answer, the canvas and the output are those of the drawing in that measure; the five numbers are the answer's.
+use borrow.Author.Needs.{needs}
+use Rattle.girthladder.proofs.girthladder_text_as.Statement.{statement}
+use Rattle.girthladder.proofs.girthladder_text_as.Tie as tie
+
+measure-of-requires : tie.Need-measure-of-requires
+measure-of-requires c κs = search needs
+
+draw-requires : tie.Need-draw-requires
+draw-requires c κs = search needs
+
+drawing-five-requires : tie.Need-drawing-five-requires
+drawing-five-requires c κs = search needs
+
+same-length : tie.Need-same-length
+same-length c = search needs
+
+same-length-2 : tie.Need-same-length-2
+same-length-2 c = search needs
+
+returns : tie.Need-returns
+returns c =
+    let d = c .before .before .before .before .before in
+    rw (← d .before .before .before .measure-of .ensures) (rw (d .draw .ensures .0) at (c .drawing-five .ensures), d .draw .ensures .1)
+
+pub girthladder-text-as-spec : {M : Type 1} → statement M
+girthladder-text-as-spec =
+    tie.close
+    (tie.spec
+    measure-of-requires
+    draw-requires
+    drawing-five-requires
+    same-length
+    same-length-2
+    returns)

@@ -1,0 +1,66 @@
+-- Refusals before an answer are a gate: it lets every answer through that comes after it, or stops them all at one refusal.
+-- So are 1 and 2, 4 to 6, and all that come before a drawing's 7 and before a graph's 9, each a row of tests one after another.
+use mathlib.Core.Path.{_≡_, refl, _∙_}
+use mathlib.Core.List.{List}
+use mathlib.Core.Bool.{Bool, true, false}
+use Prim.Native.Nat.{ℕ}
+use native.Mathlib.Omega.{arith}
+use lib.Dec.{ltb}
+use Rattle.rules.specs.Base.{pick, first}
+use Rattle.rules.specs.Numbers.{number, noNode, firstSuch, afterCount, afterNodes}
+use Rattle.rules.specs.Answers.{afterPlan}
+use Rattle.rules.specs.declared.Answer.{Answer}
+
+-- a refusal that has to do with the plan, not with what is lent: neither done nor CANVAS nor ROOM
+pub record Early (a : Answer) : Type 0 where
+  pub not-done : number a ≡ 0 → ⊥
+  pub not-canvas : number a ≡ 8 → ⊥
+  pub not-room : number a ≡ 9 → ⊥
+
+pub data Gate (before : Answer → Answer) : Type 0 where
+  lets : ((next : Answer) → before next ≡ next) → Gate before
+  stops : (a : Answer) → Early a → ((next : Answer) → before next ≡ a) → Gate before
+
+pub gate-pick : (b : Bool) (a : Answer) → Early a → Gate (λ next. pick b a next)
+unfolding pick
+gate-pick true a e = stops a e (λ next. refl)
+gate-pick false a e = lets (λ next. refl)
+
+pub gate-first : (t : ℕ → Bool) (n : ℕ) (at : ℕ → Answer) → ((k : ℕ) → Early (at k)) → Gate (λ next. firstSuch t n at next)
+unfolding firstSuch
+gate-first t n at e = gate-pick (ltb (first t n) n) (at (first t n)) (e (first t n))
+
+pub gate-then : (f g : Answer → Answer) → Gate f → Gate g → Gate (λ next. f (g next))
+gate-then f g (lets h) (lets k) = lets (λ next. h (g next) ∙ k next)
+gate-then f g (lets h) (stops a e k) = stops a e (λ next. h (g next) ∙ k next)
+gate-then f g (stops a e h) k = stops a e (λ next. h (g next))
+
+early : (a : Answer) (n : ℕ) → number a ≡ n → (n ≡ 0 → ⊥) → (n ≡ 8 → ⊥) → (n ≡ 9 → ⊥) → Early a
+early a n e d c r = record { not-done = λ z. d (omega arith); not-canvas = λ z. c (omega arith); not-room = λ z. r (omega arith) }
+
+pub gate-count : (T : List ℕ) → Gate (afterCount T)
+unfolding afterCount
+gate-count T =
+    gate-then (λ k. pick _ Answer.Ragged k) (λ k. pick _ Answer.Many k)
+    (gate-pick _ Answer.Ragged (early Answer.Ragged 1 refl (λ e. omega arith) (λ e. omega arith) (λ e. omega arith)))
+    (gate-pick _ Answer.Many (early Answer.Many 2 refl (λ e. omega arith) (λ e. omega arith) (λ e. omega arith)))
+
+pub gate-nodes : (T B : List ℕ) → Gate (afterNodes T B)
+unfolding afterNodes
+gate-nodes T B =
+    gate-then (λ k. firstSuch _ _ Answer.Depth k) (λ k. firstSuch _ _ Answer.Title (firstSuch _ _ Answer.Utf8 k))
+    (gate-first _ _ Answer.Depth (λ k. early (Answer.Depth k) 4 refl (λ e. omega arith) (λ e. omega arith) (λ e. omega arith)))
+    (gate-then (λ k. firstSuch _ _ Answer.Title k) (λ k. firstSuch _ _ Answer.Utf8 k)
+    (gate-first _ _ Answer.Title (λ k. early (Answer.Title k) 5 refl (λ e. omega arith) (λ e. omega arith) (λ e. omega arith)))
+    (gate-first _ _ Answer.Utf8 (λ k. early (Answer.Utf8 k) 6 refl (λ e. omega arith) (λ e. omega arith) (λ e. omega arith))))
+
+pub gate-graph : (T B : List ℕ) → Gate (λ next. afterCount T (afterNodes T B next))
+gate-graph T B = gate-then (afterCount T) (afterNodes T B) (gate-count T) (gate-nodes T B)
+
+pub gate-plan : (T B : List ℕ) → Gate (afterPlan T B)
+unfolding afterPlan
+gate-plan T B =
+    gate-then (afterCount T) (λ k. pick (noNode T) Answer.None (afterNodes T B k)) (gate-count T)
+    (gate-then (λ k. pick (noNode T) Answer.None k) (afterNodes T B)
+    (gate-pick (noNode T) Answer.None (early Answer.None 3 refl (λ e. omega arith) (λ e. omega arith) (λ e. omega arith)))
+    (gate-nodes T B))
