@@ -5,17 +5,6 @@ use crate::{Look, Refusal};
 
 // girthladder.h. An empty slice's pointer is never read through.
 extern "C" {
-    fn girthladder_text(
-        table: *const u32,
-        table_length: usize,
-        titles: *const u8,
-        titles_length: usize,
-        canvas: *mut u32,
-        canvas_length: usize,
-        out: *mut u8,
-        out_length: usize,
-        answer: *mut [u64; 5],
-    );
     fn girthladder_text_as(
         table: *const u32,
         table_length: usize,
@@ -44,17 +33,6 @@ extern "C" {
         titles_length: usize,
         out: *mut u8,
         out_length: usize,
-        answer: *mut [u64; 5],
-    );
-    fn girthladder_read(
-        picture: *const u8,
-        picture_length: usize,
-        canvas: *mut u32,
-        canvas_length: usize,
-        table: *mut u32,
-        table_length: usize,
-        titles: *mut u8,
-        titles_length: usize,
         answer: *mut [u64; 5],
     );
     fn girthladder_read_as(
@@ -88,22 +66,7 @@ pub struct Drawing {
 /// `Room` leaves the canvas drawn and `out` unchanged; every other refusal leaves both unchanged.
 /// 5 bytes for each cell are always room enough.
 pub fn text(table: &[u32], titles: &[u8], canvas: &mut [u32], out: &mut [u8]) -> Result<Drawing, Refusal> {
-    let mut five = [0; 5];
-    // SAFETY: four slices that do not overlap, lent for the call by pointer and length, and five numbers.
-    unsafe {
-        girthladder_text(
-            table.as_ptr(),
-            table.len(),
-            titles.as_ptr(),
-            titles.len(),
-            canvas.as_mut_ptr(),
-            canvas.len(),
-            out.as_mut_ptr(),
-            out.len(),
-            &mut five,
-        )
-    };
-    drawing(five, table, titles)
+    text_as(table, titles, Look::new(), canvas, out)
 }
 
 /// The same in this look.
@@ -147,22 +110,7 @@ pub fn fenced(table: &[u32], titles: &[u8], out: &mut [u8]) -> Result<usize, Ref
 /// of `titles`; answers how many nodes there are. Where the picture fits on the canvas, its code points are left there. Table and titles
 /// are unchanged by a refusal; 768 entries, and as many title bytes as the picture has, are always enough.
 pub fn read(picture: &[u8], canvas: &mut [u32], table: &mut [u32], titles: &mut [u8]) -> Result<usize, Refusal> {
-    let mut five = [0; 5];
-    // SAFETY: four slices that do not overlap, lent for the call by pointer and length, and five numbers.
-    unsafe {
-        girthladder_read(
-            picture.as_ptr(),
-            picture.len(),
-            canvas.as_mut_ptr(),
-            canvas.len(),
-            table.as_mut_ptr(),
-            table.len(),
-            titles.as_mut_ptr(),
-            titles.len(),
-            &mut five,
-        )
-    };
-    nodes(five)
+    read_as(picture, Look::new(), canvas, table, titles)
 }
 
 /// The same of a picture in this look.
