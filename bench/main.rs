@@ -29,13 +29,12 @@ extern "C" {
         picture: *const u8, picture_length: usize, canvas: *mut u32, canvas_length: usize,
         table: *mut u32, table_length: usize, titles: *mut u8, titles_length: usize, answer: *mut [u64; 5],
     );
-    // with fitted boxes, if `fitted` is not 0
     fn girthladder_text_as(
-        table: *const u32, table_length: usize, titles: *const u8, titles_length: usize, fitted: u32,
+        table: *const u32, table_length: usize, titles: *const u8, titles_length: usize, look: u32,
         canvas: *mut u32, canvas_length: usize, out: *mut u8, out_length: usize, answer: *mut [u64; 5],
     );
     fn girthladder_read_as(
-        picture: *const u8, picture_length: usize, fitted: u32, canvas: *mut u32, canvas_length: usize,
+        picture: *const u8, picture_length: usize, look: u32, canvas: *mut u32, canvas_length: usize,
         table: *mut u32, table_length: usize, titles: *mut u8, titles_length: usize, answer: *mut [u64; 5],
     );
 }
@@ -91,21 +90,21 @@ impl Lent {
         five
     }
 
-    fn fitted(&mut self) -> [u64; 5] {
+    fn text_as(&mut self, look: u32) -> [u64; 5] {
         let mut five = [0; 5];
         unsafe {
             girthladder_text_as(
-                self.table.as_ptr(), self.table.len(), self.titles.as_ptr(), self.titles.len(), 1,
+                self.table.as_ptr(), self.table.len(), self.titles.as_ptr(), self.titles.len(), look,
                 self.canvas.as_mut_ptr(), self.canvas.len(), self.out.as_mut_ptr(), self.out.len(), &mut five,
             )
         }
         five
     }
 
-    // Lends the cells that a drawing needs, which it tells when it has none, and 5 bytes of output for each; how many cells.
-    fn lend(&mut self, draw: fn(&mut Lent) -> [u64; 5]) -> usize {
+    // Lends the cells that a drawing in this look needs, which it tells when it has none, and 5 bytes of output for each; how many cells.
+    fn lend(&mut self, look: u32) -> usize {
         self.canvas.clear();
-        let cells = draw(self)[1] as usize;
+        let cells = self.text_as(look)[1] as usize;
         self.canvas = vec![0; cells];
         self.out = vec![0; 5 * cells];
         cells
@@ -147,11 +146,11 @@ impl Read {
         five
     }
 
-    fn fitted(&mut self) -> [u64; 5] {
+    fn read_as(&mut self, look: u32) -> [u64; 5] {
         let mut five = [0; 5];
         unsafe {
             girthladder_read_as(
-                self.picture.as_ptr(), self.picture.len(), 1, self.canvas.as_mut_ptr(), self.canvas.len(),
+                self.picture.as_ptr(), self.picture.len(), look, self.canvas.as_mut_ptr(), self.canvas.len(),
                 self.table.as_mut_ptr(), self.table.len(), self.titles.as_mut_ptr(), self.titles.len(), &mut five,
             )
         }
@@ -323,7 +322,7 @@ fn readings(rounds: usize) {
     for (name, pairs) in plans() {
         let text = theirs(&grow(&pairs, &mut 0), false).into_bytes();
         let mut lent = Lent::new(&pairs);
-        let cells = lent.lend(Lent::text);
+        let cells = lent.lend(0);
         let mut back = Read::new(text, cells);
         let five = back.read();
         assert!(back.is(five, &lent), "{name}: it is read back as another plan");
@@ -332,7 +331,7 @@ fn readings(rounds: usize) {
     }
 }
 
-// ---- fitted boxes, which the crate does not have: beside the byte mode on the same plan
+// ---- looks that the crate does not have: each beside the crate's own look on the same plan
 
 // The same plan, its letters Greek.
 fn greek(pairs: Pairs) -> Pairs {
@@ -349,52 +348,93 @@ fn narrow(text: &str) -> String {
     text.chars().map(|c| if c.is_ascii() || ('\u{2500}'..='\u{257f}').contains(&c) { c } else { 'x' }).collect()
 }
 
-// The fitted drawing of a plan: with narrow letters it is what the crate draws of the plan with narrow letters.
-fn fitted_text(name: &str, pairs: &Pairs, lent: &mut Lent) -> Vec<u8> {
-    let five = lent.fitted();
-    let text = lent.out[..five[1] as usize].to_vec();
-    let narrowed = pairs.iter().map(|(depth, title)| (*depth, narrow(title))).collect();
-    let expected = theirs(&grow(&narrowed, &mut 0), false);
-    assert!(five[0] == 0 && narrow(std::str::from_utf8(&text).unwrap()) == expected, "{name}: fitted, it is drawn otherwise");
-    text
+fn narrowed(pairs: &Pairs) -> Pairs {
+    pairs.iter().map(|(depth, title)| (*depth, narrow(title))).collect()
 }
 
-fn fitted_plans() -> Vec<(String, Pairs)> {
-    let mut all: Vec<_> = plans().into_iter().map(|(name, pairs)| (name.to_string(), pairs)).collect();
-    for k in [2, 3] {
-        let (name, pairs) = all[k].clone();
-        all.push((name + ", in Greek", greek(pairs)));
-    }
-    all
-}
-
-// Drawing, and reading what was drawn, in both modes.
-fn fitted(rounds: usize) {
-    let head = |title: &str| {
-        println!("\n{title}, beside the byte mode on the same plan:\n");
-        println!("| plan | cells | bytes | byte mode, ns | fitted, ns | fitted / byte mode | middle round | ns a cell |");
-        println!("|---|---|---|---|---|---|---|---|");
+// A plain mark for each of the drawing's own.
+fn plainly(text: &str) -> String {
+    let mark = |c: char| match c {
+        '─' => '-',
+        '│' => '|',
+        '┌' | '╭' | '╮' | '╰' | '╯' | '┬' | '┴' => '+',
+        _ => c,
     };
-    head("Fitted boxes, text, with 5 bytes of output lent for each cell");
-    for (name, pairs) in fitted_plans() {
-        let (mut wide, mut lent) = (Lent::new(&pairs), Lent::new(&pairs));
-        wide.lend(Lent::text);
-        assert!(wide.text()[0] == 0, "{name}: it is not drawn");
-        let cells = lent.lend(Lent::fitted);
-        let bytes = fitted_text(&name, &pairs, &mut lent).len();
-        beside(&name, cells, bytes, rounds, &mut || { keep(wide.text()); }, &mut || { keep(lent.fitted()); });
+    text.chars().map(mark).collect()
+}
+
+// A look with the plans that are drawn in it, and what is asked of such a drawing, by what the crate draws of the plan with narrow letters.
+struct Other {
+    name: &'static str,
+    first: &'static str,
+    second: &'static str,
+    look: u32,
+    plans: Vec<(String, Pairs)>,
+    is: fn(&str, &str) -> bool,
+}
+
+impl Other {
+    fn text(&self, name: &str, pairs: &Pairs, lent: &mut Lent) -> Vec<u8> {
+        let five = lent.text_as(self.look);
+        let text = lent.out[..five[1] as usize].to_vec();
+        let expected = theirs(&grow(&narrowed(pairs), &mut 0), false);
+        assert!(five[0] == 0 && (self.is)(std::str::from_utf8(&text).unwrap(), &expected), "{name}: {}, it is drawn otherwise", self.second);
+        text
     }
-    head("Fitted boxes, reading back");
-    for (name, pairs) in fitted_plans() {
-        let mut lent = Lent::new(&pairs);
-        let mut wide = Read::new(theirs(&grow(&pairs, &mut 0), false).into_bytes(), lent.lend(Lent::text));
-        let cells = lent.lend(Lent::fitted);
-        let mut back = Read::new(fitted_text(&name, &pairs, &mut lent), cells);
-        let fives = (wide.read(), back.fitted());
-        assert!(wide.is(fives.0, &lent) && back.is(fives.1, &lent), "{name}: it is read back as another plan");
-        let bytes = back.picture.len();
-        beside(&name, cells, bytes, rounds, &mut || { keep(wide.read()); }, &mut || { keep(back.fitted()); });
+
+    fn head(&self, what: &str) {
+        println!("\n{}, {what}, beside the {} on the same plan:\n", self.name, self.first);
+        println!("| plan | cells | bytes | {0}, ns | {1}, ns | {1} / {0} | middle round | ns a cell |", self.first, self.second);
+        println!("|---|---|---|---|---|---|---|---|");
     }
+
+    // Drawing, and reading what was drawn, in both looks.
+    fn race(&self, rounds: usize) {
+        self.head("text, with 5 bytes of output lent for each cell");
+        for (name, pairs) in &self.plans {
+            let (mut own, mut lent) = (Lent::new(pairs), Lent::new(pairs));
+            own.lend(0);
+            assert!(own.text()[0] == 0, "{name}: it is not drawn");
+            let cells = lent.lend(self.look);
+            let bytes = self.text(name, pairs, &mut lent).len();
+            beside(name, cells, bytes, rounds, &mut || { keep(own.text()); }, &mut || { keep(lent.text_as(self.look)); });
+        }
+        self.head("reading back");
+        for (name, pairs) in &self.plans {
+            let mut lent = Lent::new(pairs);
+            let mut own = Read::new(theirs(&grow(pairs, &mut 0), false).into_bytes(), lent.lend(0));
+            let cells = lent.lend(self.look);
+            let mut back = Read::new(self.text(name, pairs, &mut lent), cells);
+            let fives = (own.read(), back.read_as(self.look));
+            assert!(own.is(fives.0, &lent) && back.is(fives.1, &lent), "{name}: it is read back as another plan");
+            let bytes = back.picture.len();
+            beside(name, cells, bytes, rounds, &mut || { keep(own.read()); }, &mut || { keep(back.read_as(self.look)); });
+        }
+    }
+}
+
+// Fitted boxes: with narrow letters it is what the crate draws of the plan with narrow letters. Plain characters: all letters are narrow.
+fn others() -> [Other; 2] {
+    let named: Vec<_> = plans().into_iter().map(|(name, pairs)| (name.to_string(), pairs)).collect();
+    let in_greek = |k: usize| (named[k].0.clone() + ", in Greek", greek(named[k].1.clone()));
+    [
+        Other {
+            name: "Fitted boxes",
+            first: "byte mode",
+            second: "fitted",
+            look: 1,
+            plans: named.iter().cloned().chain([2, 3].map(in_greek)).collect(),
+            is: |text, expected| narrow(text) == expected,
+        },
+        Other {
+            name: "Plain characters",
+            first: "boxes",
+            second: "plain",
+            look: 2,
+            plans: named.iter().map(|(name, pairs)| (name.clone(), narrowed(pairs))).collect(),
+            is: |text, expected| text == plainly(expected),
+        },
+    ]
 }
 
 fn main() {
@@ -418,5 +458,7 @@ fn main() {
         lent.out = vec![0; bytes];
     });
     readings(rounds);
-    fitted(rounds);
+    for other in others() {
+        other.race(rounds);
+    }
 }

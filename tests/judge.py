@@ -1,10 +1,11 @@
 """What the programs are held to: requests to `answers`, and the line that each must get.
 
-Texts and the crate's graphs come from the Rust crate itself (../shared/oracle builds its code); refusals, sizes, the fenced graph, texts
-in a look that the crate does not have, the plan that is read off a picture and what is left in lent memory from a second reading of the
-documents (../shared/model/rules.py is document 01, and takes a request of document 02 as a keyword). Nothing here runs our code.
+Texts and the crate's graphs come from the Rust crate itself (../shared/oracle builds its code); refusals, sizes, the fenced graph, fitted
+boxes, the plan that is read off a picture and what is left in lent memory from a second reading of the documents (../shared/model/rules.py
+is document 01, and takes a request of document 02 as a keyword). Plain drawings come from both: the crate's drawing, each mark of which is
+put as a plain one, has to be what the second reading draws. Nothing here runs our code.
 """
-import os, shutil, struct, subprocess, sys
+import functools, itertools, os, shutil, struct, subprocess, sys
 
 ROOT = os.path.dirname(os.path.dirname(os.path.abspath(__file__)))
 SHARED = os.path.join(os.path.dirname(ROOT), 'shared')
@@ -13,8 +14,10 @@ try: import rules
 except ImportError: rules = None
 
 TEXT, GRAPH, FENCED, READ, FILE = 0, 1, 2, 3, 4
-BYTES, FITTED = 0, 1  # looks: the crate's, and (iv) the one where a line's length is its code points
-LOOKS = {TEXT: (BYTES, FITTED), GRAPH: (BYTES,), FENCED: (BYTES,), READ: (BYTES, FITTED), FILE: (BYTES,)}  # that a kind of request takes
+BYTES, FITTED, PLAIN = 0, 1, 2  # a look: the crate's, and what is added to it: (iv) a line's length is its code points, (xiii) plain marks
+ALL_LOOKS = tuple(range(4))
+LOOKS = {TEXT: ALL_LOOKS, GRAPH: (BYTES,), FENCED: (BYTES,), READ: ALL_LOOKS, FILE: (BYTES,)}  # that a kind of request takes
+NOT_PLAIN = 17  # (xiii) a title does not keep to the bytes of the plain profile
 CELL, BYTE, PRIME = 0xA5A5A5A5, 0xA5, 4294967291
 MOST_LENT_CELLS, MOST_OUT, MOST_TITLES, MOST_ENTRIES, MOST_PAYLOAD = 262144, 524288, 262144, 1024, 524288
 
@@ -38,17 +41,44 @@ def command(program):
     return [program] if os.uname().machine == 'x86_64' else [os.path.join(ROOT, 'tests', 'program'), program]
 
 
-def check(table, titles, text=True):
-    """The first refusal of 1 to 6, or None; (vii) a later depth of 0 starts another root."""
-    return rules.check(table, titles, text, roots=True)
+def check(table, titles, text=True, look=BYTES):
+    """The first refusal of 1 to 6, or (xiii) 17 after them, or None; (vii) a later depth of 0 starts another root."""
+    refusal = rules.check(table, titles, text, roots=True)
+    if refusal or not look & PLAIN: return refusal
+    return next(((NOT_PLAIN, k) for k, (_, t) in enumerate(rules.plan_of(table, titles)) if not printed(t)), None)
+
+
+def printed(text):
+    """(xiii) It keeps to the bytes 20 to 7E and 0A."""
+    return all(0x20 <= b <= 0x7e or b == 0x0a for b in text)
 
 
 def length(look): return rules.points if look & FITTED else rules.octets
+def marks(look): return rules.PLAIN if look & PLAIN else rules.BOXES
 def view(plan, look=BYTES): return rules.View(plan, length(look))
-def text(plan, look=BYTES): return rules.text(plan, length(look))
-def draw(table, titles, cells, room, look=BYTES): return rules.draw(table, titles, cells, room, length(look), roots=True)
-def ordinary(plan, look=BYTES): return rules.ordinary(plan, length(look), roots=True)
-def read(picture, look=BYTES): return rules.read(picture, length(look), roots=True)
+def text(plan, look=BYTES): return rules.text(plan, length(look), marks(look))
+def draw(table, titles, cells, room): return rules.draw(table, titles, cells, room, roots=True)
+def ordinary(plan, look=BYTES): return rules.ordinary(plan, length(look), marks(look), roots=True)
+
+
+@functools.lru_cache(4096)
+def read(picture, look=BYTES):
+    """The ordinary plan that is drawn so, or the refusal's number. What is found is drawn again and compared, so no plan is ever found
+    wrongly; and since it is sought by the picture alone, none is overlooked if each ordinary plan's drawing leads back to it. Whoever asks
+    holds it to that (`leads_back`), where the plan that was drawn is known: chosen plans, random ones, and all small ones (`small_plans`)."""
+    return rules.read(picture, length(look), marks(look), roots=True)
+
+
+def leads_back(plan, picture, look):
+    """The picture, drawn of this plan, is read as the plan if that is ordinary."""
+    return not ordinary(plan, look) or read(picture, look) == plan
+
+
+def plainly(text):
+    """A drawing of the crate's with a plain mark for each of its marks. The titles stay, but only if they hold none of these marks: which is
+    so of every plan that is drawn in the plain profile, since its titles hold bytes up to 7E. Such a plan is measured alike by bytes and by
+    code points, so the crate decides both plain looks."""
+    return text.decode().translate({ord(rules.BOXES[m]): rules.PLAIN[m] for m in rules.BOXES}).encode()
 
 
 def treetext(file):
@@ -78,11 +108,11 @@ class Request:
             self.broken = got is None
             table, titles = got or ([], b'')
         self.table, self.titles = table, titles
-        self.refusal = None if self.broken else check(table, titles, kind in (TEXT, FILE))
+        self.refusal = None if self.broken else check(table, titles, kind in (TEXT, FILE), look)
         self.plan = None if self.broken or self.refusal else rules.plan_of(table, titles)
         self.view = view(self.plan, look) if self.plan and kind in (TEXT, FILE) else None
-        # what the crate is asked for: it has one look, and needs no answer for a drawing that is refused
-        if look != BYTES or self.view and self.view.width * self.view.height > min(lent1, rules.LIMIT): self.form = None
+        # what the crate is asked for: it has no fitted boxes, and needs no answer for a drawing that is refused
+        if look == FITTED or self.view and self.view.width * self.view.height > min(lent1, rules.LIMIT): self.form = None
         else: self.form = {TEXT: 'text', FILE: 'text', GRAPH: 'dot'}.get(kind)
 
     def sent(self):
@@ -113,7 +143,10 @@ class Request:
         width, height = self.view.width, self.view.height
         if width * height > rules.LIMIT: return rules.LARGE, 0, none, [], b''
         if width * height > self.lent1: return rules.CANVAS, width * height, none, [], b''
-        if self.look != BYTES: crate = text(self.plan, self.look)
+        if self.look != BYTES:
+            drawing = text(self.plan, self.look)
+            assert not self.look & PLAIN or drawing == plainly(crate)
+            crate = drawing
         cells = [ord(c) for row in crate.decode().split('\n')[:-1] for c in row.ljust(width)]
         assert len(cells) == width * height
         if len(crate) > self.lent2: return rules.ROOM, len(crate), none, cells, b''
@@ -237,7 +270,34 @@ LETTERED = [[(d, t.encode()) for d, t in p] for p in (
     [(k, 'βάθος %d' % k) for k in range(32)],
     [(0, 'ρίζα')] + [(1, 'φύλλο\n%d' % k) for k in range(101)],
 )]
+# what plain characters are about: titles that look like lines, corners, tees, boxes, the axis and its indices, alone and above, below and
+# beside each other; every byte that is printed; lines that are empty; empty titles and several roots; titles as long as may be
+BORDERED = [[(d, t.encode()) for d, t in p] for p in (
+    [(0, '+')],
+    [(0, '|')],
+    [(0, '-')],
+    [(0, '+---+'), (1, '+---+'), (1, '|'), (2, '+')],
+    [(0, '+---+\n| a |\n+---+'), (1, '+-+-+\n| b |\n+---+'), (1, '| c |\n+-+++'), (2, '+\n|\n+')],
+    [(0, '+--+\n|  +\n+--|'), (0, '+'), (1, '++'), (1, '+++'), (2, '++++'), (1, '+++++')],
+    [(0, '-'), (1, '--'), (1, '---'), (2, '----'), (1, '|||'), (2, '||'), (2, '|')],
+    [(0, '0'), (1, '1'), (1, '0      1'), (2, ' 0 |'), (0, '10'), (1, '0\n1\n2')],
+    [(0, '        0\n   +-------\n   |\n   |  +---+\n 0 |  | a |\n   |  +---+')],
+    [(0, '+-----+'), (1, '+'), (1, '+-+\n |'), (0, '+-+-+\n  |'), (1, '|  +---+\n|  |')],
+    [(0, ''.join(map(chr, range(0x20, 0x50)))), (1, ''.join(map(chr, range(0x50, 0x7f)))), (1, ' !'), (1, '~')],
+    [(0, '\n'), (1, '\n+'), (1, '+\n'), (2, '|\n\n|'), (2, '\n\n-')],
+    [(0, '+'), (1, ''), (2, '|'), (1, '-'), (2, ''), (0, ''), (1, '+-+'), (0, '| |')],
+    [(0, ''), (1, '+'), (2, ''), (3, '|'), (0, ''), (1, '-')],
+    [(0, '+ ')],
+    [(0, '+-+\n| ')],
+    [(0, '+' * 1024), (1, '+-' * 512), (1, '|' * 1023)],
+    [(0, '|\n' * 511 + '|')],
+    [(k, '+-%d-+' % k) for k in range(32)],
+    [(0, '+')] + [(1, '|\n%d' % k) for k in range(101)],
+)]
+# bytes at the edges of what is printed, each as the end of a title: 1F, 7F and all that is above are not
+EDGES = [b'\x00', b'\t', b'\n', b'\x0b', b'\r', b'\x1f', b' ', b'!', b'}', b'~', b'\x7f', b'\x80', b'\xff', '\u0080'.encode(), 'é'.encode(), '─'.encode(), '😀'.encode()]
 LETTERS = list('ab c0 │─╭╮╰╯┴┬┌π') + ['é', '"', '\\', '\n', '\n', '\u3000', '漢', '𝄞', '\U0010ffff', '\r', '\t', '\x00', '\x7f', '-', '+', '|', '\u00a0', '\u2028']
+PRINTED = list('ab c01 +-|+-|+~"\\') + ['\n', '\n']
 SPREAD = list('αβλπσΩ09a ') + ['é', 'e\u0301', 'ö', 'o\u0308', '\u0301', '\n', '\n', '\u3000', '漢', '│', '╮', '─', '𝄞', '𐌰', '😀']
 
 
@@ -271,6 +331,15 @@ def random_plan(rng, letters=LETTERS):
     return plan
 
 
+def small_plans():
+    """All plans of one node with up to three of these letters, of two nodes with up to two, and of three nodes with these titles."""
+    titles = [''.join(t) for n in (1, 2, 3) for t in itertools.product('+-|0 \n', repeat=n)]
+    some = ['+', '-', '|', '0', '\n', '++', '+-', '-+', '|+', '+\n', '\n|']
+    two, three = [(0, 0), (0, 1)], [(0, 0, 0), (0, 0, 1), (0, 1, 0), (0, 1, 1), (0, 1, 2)]
+    for depths, given in [((0,), titles)] + [(d, titles[:42]) for d in two] + [(d, some) for d in three]:
+        for chosen in itertools.product(given, repeat=len(depths)): yield [(d, t.encode()) for d, t in zip(depths, chosen)]
+
+
 def overlapped(rng, plan):
     """The plan's depths, with titles that are parts of one short text and overlap."""
     text = ''.join(rng.choice(LETTERS) for _ in range(30))
@@ -295,8 +364,9 @@ def widened(rng, lines):
     return [l[:at] + l[at - 1:at] + l[at:] if at else l for l in lines]
 
 
-def hurt(rng, picture):
+def hurt(rng, picture, look=BYTES):
     """A drawing with one fault: a byte or a mark changed, a line cut, left out, doubled or swapped, a space at an end, a box widened."""
+    mark = marks(look)
     if not rules.valid(picture) or not picture: return picture
     lines = picture.decode()[:-1].split('\n')
     k, j = rng.randrange(len(lines)), rng.randrange(len(lines))
@@ -309,9 +379,9 @@ def hurt(rng, picture):
     if kind == 2: return picture[:-1] + rng.choice([b'', b' \n', b'\n\n', b'\n \n', b'x\n'])
     if kind in (3, 4, 5) and lines[k]:
         at = rng.randrange(len(lines[k]))
-        lines[k] = lines[k][:at] + rng.choice('│─╭╮╰╯┴┬┌ a0漢') + lines[k][at + 1:]
+        lines[k] = lines[k][:at] + rng.choice('|-+++ a0~' if look & PLAIN else '│─╭╮╰╯┴┬┌ a0漢') + lines[k][at + 1:]
     elif kind == 6: lines[k] = lines[k][:rng.randrange(len(lines[k]) + 1)]
-    elif kind == 7: lines[k] += rng.choice([' ', 'x', '─', '│'])
+    elif kind == 7: lines[k] += rng.choice([' ', 'x', mark['h'], mark['v']])
     elif kind == 8: lines[k], lines[j] = lines[j], lines[k]
     elif kind == 9: lines = widened(rng, lines)
     elif kind == 10: del lines[k]

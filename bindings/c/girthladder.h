@@ -43,7 +43,8 @@
 extern "C" {
 #endif
 
-/* What `number` may be. Of a plan they are looked for in this order, each over all nodes before the next. Behind each: the second number. */
+/* What `number` may be. Of a plan they are looked for in the order in which they stand here, each over all nodes before the next. Behind
+ * each: the second number. */
 enum girthladder_number {
     GIRTHLADDER_DONE = 0,   /* done: bytes written */
     GIRTHLADDER_RAGGED = 1, /* the table's length is no multiple of 3: 0 */
@@ -52,6 +53,7 @@ enum girthladder_number {
     GIRTHLADDER_DEPTH = 4,  /* the depth rule is broken, or a depth is over 31: the first such node, counted from 0 */
     GIRTHLADDER_TITLE = 5,  /* a title reaches past the title bytes, or has over 1,024: the first such node */
     GIRTHLADDER_UTF8 = 6,   /* a title is not valid UTF-8: the first such node; reading: the picture is not, 0 */
+    GIRTHLADDER_NOT_PLAIN = 17, /* GIRTHLADDER_PLAIN, and a title has a byte that is not 20 to 7E or '\n', drawing only: the first such node */
     GIRTHLADDER_LARGE = 7,  /* over 1,048,576 cells, drawing and reading: 0 */
     GIRTHLADDER_CANVAS = 8, /* the canvas is too short, drawing and reading: cells needed */
     GIRTHLADDER_ROOM = 9,   /* the output is too short: bytes needed; reading: see there */
@@ -61,7 +63,9 @@ enum girthladder_number {
 /* How a drawing looks, for the functions that end in `_as`: a sum of these switches. 0 is the crate's look, that of girthladder_text.
  * A switch that has no name here is not looked at; leave it 0, since a later one may get the name. */
 enum girthladder_look {
-    GIRTHLADDER_FITTED = 1 /* a line's length is its code points, not its bytes, so boxes fit Greek and accented titles */
+    GIRTHLADDER_FITTED = 1, /* a line's length is its code points, not its bytes, so boxes fit Greek and accented titles */
+    GIRTHLADDER_PLAIN = 2   /* `-` and `|` for lines, `+` for every corner and tee; titles are held to bytes 20 to 7E and '\n', so the text
+                             * has no other byte (and the measure makes no difference) */
 };
 
 /* What a function answers: all five numbers are written by every call. */
@@ -130,8 +134,9 @@ void girthladder_read(const uint8_t *picture, size_t picture_length,
                       struct girthladder_answer *answer);
 
 /* The same of a picture in this look: it is accepted exactly when some ordinary plan is drawn as those very bytes by girthladder_text_as
- * in it. A picture that was drawn in another look is UNDRAWN, unless it is a drawing in this one too, as where no title has a letter of
- * more than one byte; then it is the same plan. */
+ * in it; with GIRTHLADDER_PLAIN the titles of an ordinary plan also keep to bytes 20 to 7E and '\n'. A picture that was drawn in the other
+ * measure is UNDRAWN, unless it is a drawing in this one too, as where no title has a letter of more than one byte; then it is the same
+ * plan. A picture in the other marks is UNDRAWN. */
 void girthladder_read_as(const uint8_t *picture, size_t picture_length,
                          uint32_t look,
                          uint32_t *canvas, size_t canvas_length,

@@ -295,7 +295,7 @@ static void each_look(void) {
         "   │  ╭───╮\n"
         " 0 │  │ π │\n"
         "   │  ╰───╯\n";
-    struct plan greek = plan(alone, 3, "\xCF\x80", 2), plain = plan(three, 9, "abc", 3);
+    struct plan greek = plan(alone, 3, "\xCF\x80", 2), letters = plan(three, 9, "abc", 3);
     for (uint32_t k = 0; k < 8; k++) {
         uint32_t drawn = k & 1 ? GIRTHLADDER_FITTED : 0, told = k & 2 ? GIRTHLADDER_FITTED : 0, unnamed = k & 4 ? 0xFFFF0000 : 0;
         struct lent canvas = lend(4 * CELLS), out = lend(5 * CELLS), again = lend(4 * 768), titles = lend(99), five = lend(sizeof(struct girthladder_answer));
@@ -308,7 +308,7 @@ static void each_look(void) {
         girthladder_read_as(out.at, bytes, told | unnamed, (uint32_t *)canvas.at, CELLS, (uint32_t *)again.at, 768, titles.at, 99, a);
         if (drawn == told) CHECK(is(*a, GIRTHLADDER_DONE, 1) && memcmp(again.at, alone, sizeof alone) == 0 && memcmp(titles.at, "\xCF\x80", 2) == 0);
         else CHECK(is(*a, GIRTHLADDER_UNDRAWN, 0) && marked(&again, 0) && marked(&titles, 0));
-        girthladder_text_as((const uint32_t *)plain.table.at, 9, plain.titles.at, 3, drawn | unnamed, (uint32_t *)canvas.at, CELLS, out.at, 5 * CELLS, a);
+        girthladder_text_as((const uint32_t *)letters.table.at, 9, letters.titles.at, 3, drawn | unnamed, (uint32_t *)canvas.at, CELLS, out.at, 5 * CELLS, a);
         CHECK(a->number == GIRTHLADDER_DONE && a->second == BYTES && a->width == 18 && memcmp(out.at, picture, BYTES) == 0);
         girthladder_read_as(out.at, BYTES, told | unnamed, (uint32_t *)canvas.at, CELLS, (uint32_t *)again.at, 768, titles.at, 99, a);
         CHECK(is(*a, GIRTHLADDER_DONE, 3) && memcmp(again.at, three, sizeof three) == 0 && memcmp(titles.at, "abc", 3) == 0);
@@ -320,7 +320,70 @@ static void each_look(void) {
         give_back(&five);
     }
     forget(&greek);
-    forget(&plain);
+    forget(&letters);
+}
+
+/* What the example is in plain characters. */
+static const char printed[] =
+    "        0      1\n"
+    "   +--------------\n"
+    "   |\n"
+    "   |  +---+\n"
+    " 0 |  | a |\n"
+    "   |  +-+++\n"
+    "   |    ||\n"
+    "   |    |+-----+\n"
+    "   |    |      |\n"
+    "   |  +-+-+  +-+-+\n"
+    " 1 |  | b |  | c |\n"
+    "   |  +---+  +---+\n";
+
+/* The example in plain characters, in each measure: drawn, and read in each look; what the boxes are read as. */
+static void each_plain_look(void) {
+    static const uint32_t three[] = {0, 0, 1, 1, 1, 1, 1, 2, 1};
+    struct plan letters = plan(three, 9, "abc", 3);
+    for (uint32_t k = 0; k < 8; k++) {
+        uint32_t drawn = GIRTHLADDER_PLAIN | (k & 1 ? GIRTHLADDER_FITTED : 0), told = k >> 1;
+        struct lent canvas = lend(4 * CELLS), out = lend(5 * CELLS), again = lend(4 * 768), titles = lend(99), five = lend(sizeof(struct girthladder_answer));
+        struct girthladder_answer *a = (struct girthladder_answer *)five.at;
+        girthladder_text_as((const uint32_t *)letters.table.at, 9, letters.titles.at, 3, drawn, (uint32_t *)canvas.at, CELLS, out.at, 5 * CELLS, a);
+        CHECK(is(*a, GIRTHLADDER_DONE, sizeof printed - 1) && a->width == 18 && a->height == 12 && a->untitled == 0);
+        CHECK(memcmp(out.at, printed, sizeof printed - 1) == 0 && marked(&out, sizeof printed - 1));
+        CHECK(((const uint32_t *)canvas.at)[18 + 3] == '+' && ((const uint32_t *)canvas.at)[11 * 18 + 17] == '+');
+        girthladder_read_as(out.at, sizeof printed - 1, told, (uint32_t *)canvas.at, CELLS, (uint32_t *)again.at, 768, titles.at, 99, a);
+        if (told & GIRTHLADDER_PLAIN) CHECK(is(*a, GIRTHLADDER_DONE, 3) && memcmp(again.at, three, sizeof three) == 0 && memcmp(titles.at, "abc", 3) == 0);
+        else CHECK(is(*a, GIRTHLADDER_UNDRAWN, 0) && marked(&again, 0) && marked(&titles, 0));
+        girthladder_read_as((const uint8_t *)picture, BYTES, drawn, (uint32_t *)canvas.at, CELLS, (uint32_t *)again.at, 768, titles.at, 99, a);
+        CHECK(is(*a, GIRTHLADDER_UNDRAWN, 0) && marked(&five, sizeof *a));
+        give_back(&canvas);
+        give_back(&out);
+        give_back(&again);
+        give_back(&titles);
+        give_back(&five);
+    }
+    forget(&letters);
+}
+
+/* A title that is, or is not, printed in plain characters: which number, and its second one; no memory changes with a refusal. */
+static void each_byte(void) {
+    static const uint32_t two[] = {0, 0, 1, 1, 1, 2};
+    for (unsigned byte = 0; byte < 256; byte++) {
+        uint8_t titles[3] = {'|', 'x', (uint8_t)byte};
+        struct plan p = plan(two, 6, titles, 3);
+        struct lent canvas = lend(4 * CELLS), out = lend(5 * CELLS), five = lend(sizeof(struct girthladder_answer));
+        struct girthladder_answer *a = (struct girthladder_answer *)five.at;
+        girthladder_text_as((const uint32_t *)p.table.at, 6, p.titles.at, 3, GIRTHLADDER_PLAIN, (uint32_t *)canvas.at, CELLS, out.at, 5 * CELLS, a);
+        if ((byte >= 0x20 && byte <= 0x7E) || byte == '\n') {
+            CHECK(a->number == GIRTHLADDER_DONE);
+            for (size_t k = 0; k < a->second; k++) CHECK((out.at[k] >= 0x20 && out.at[k] <= 0x7E) || out.at[k] == '\n');
+        } else {
+            CHECK(is(*a, byte < 0x80 ? GIRTHLADDER_NOT_PLAIN : GIRTHLADDER_UTF8, 1) && marked(&canvas, 0) && marked(&out, 0));
+        }
+        give_back(&canvas);
+        give_back(&out);
+        give_back(&five);
+        forget(&p);
+    }
 }
 
 int main(void) {
@@ -346,6 +409,8 @@ int main(void) {
     }
     two_roots();
     each_look();
+    each_plain_look();
+    each_byte();
     each_refusal();
     each_reading();
     forget(&p);

@@ -9,7 +9,7 @@
 //! ```
 //!
 //! [`draw`], [`dot`] and [`fenced`] lend what is needed and answer a `String`, [`read`] a [`Plan`]; [`lent`] has the same on memory of the
-//! caller's. [`draw_as`] and [`read_as`] take a [`Look`], such as boxes that fit Greek and accented titles:
+//! caller's. [`draw_as`] and [`read_as`] take a [`Look`], such as boxes that fit Greek and accented titles, or plain characters:
 //!
 //! ```
 //! use girthladder::{Look, Plan};
@@ -17,6 +17,9 @@
 //! let fitted = Look::new().fitted();
 //! let text = girthladder::draw_as(&plan, fitted).unwrap();
 //! assert_eq!(girthladder::read_as(&text, fitted).unwrap(), plan);
+//!
+//! let plan: Plan = [(0, "READ rain"), (1, "gauge")].into_iter().collect();
+//! assert!(girthladder::draw_as(&plan, Look::new().plain()).unwrap().contains(" 0 |  | READ rain |\n"));
 //! ```
 
 mod look;
@@ -63,8 +66,8 @@ pub fn read(picture: impl AsRef<[u8]>) -> Result<Plan, Refusal> {
     found(picture.as_ref(), lent::read)
 }
 
-/// The same of a picture in this look. One that was drawn in another look is `Undrawn`, unless it is a drawing in this one too, as where
-/// titles are ASCII; then it is the same plan.
+/// The same of a picture in this look. One that was drawn in the other measure is `Undrawn`, unless it is a drawing in this one too, as
+/// where titles are ASCII; then it is the same plan. One in the other marks is `Undrawn`.
 pub fn read_as(picture: impl AsRef<[u8]>, look: Look) -> Result<Plan, Refusal> {
     found(picture.as_ref(), |picture, canvas, table, titles| lent::read_as(picture, look, canvas, table, titles))
 }

@@ -18,6 +18,8 @@ pub enum Refusal {
     Title { node: usize, start: u32, length: u32, titles: usize },
     /// 6: this node's title is not valid UTF-8.
     Utf8 { node: usize },
+    /// 17: this node's title has a byte that plain characters do not include: not 20 to 7E, and no line break; drawing in the plain look only.
+    Plain { node: usize },
     /// 7: over 1,048,576 cells; drawing and reading.
     Large,
     /// 8: the lent canvas is too short; drawing and reading.
@@ -42,6 +44,7 @@ impl Refusal {
             Refusal::Depth { .. } => 4,
             Refusal::Title { .. } => 5,
             Refusal::Utf8 { .. } => 6,
+            Refusal::Plain { .. } => 17,
             Refusal::Large => 7,
             Refusal::Canvas { .. } => 8,
             Refusal::Room { .. } => 9,
@@ -78,7 +81,8 @@ impl Refusal {
             7 => Refusal::Large,
             8 => Refusal::Canvas { needed: node },
             9 => Refusal::Room { needed: node },
-            _ => unreachable!("the library answers 0 to 9"),
+            17 => Refusal::Plain { node },
+            _ => unreachable!("the library answers 0 to 9 or 17"),
         }
     }
 }
@@ -101,6 +105,7 @@ impl fmt::Display for Refusal {
                 write!(f, "the title of node {node}, {length} bytes from {start} on, lies outside the {titles} title bytes")
             },
             Refusal::Utf8 { node } => write!(f, "the title of node {node} is not valid UTF-8"),
+            Refusal::Plain { node } => write!(f, "the title of node {node} has a byte that is not printed in plain characters: only 20 to 7E and line breaks are"),
             Refusal::Large => write!(f, "the drawing has more than {} cells", crate::MOST_CELLS),
             Refusal::Canvas { needed } => write!(f, "the canvas is too short: the drawing needs {needed} cells"),
             Refusal::Room { needed } => write!(f, "the output is too short: {needed} bytes are needed"),

@@ -196,6 +196,35 @@ fn each_look() {
 }
 
 #[test]
+fn plain_characters() {
+    let (plain, both) = (Look::new().plain(), Look::new().plain().fitted());
+    let printed = PICTURE.replace(|mark| "┌╭╮╰╯┬┴".contains(mark), "+").replace('─', "-").replace('│', "|");
+    assert!(both == Look::new().fitted().plain() && plain.plain() == plain && plain != both);
+    for p in [example(), plan(&[(0, "+---+\n| a |\n+-+-+"), (1, "|"), (1, "+"), (2, "-"), (0, " !~")])] {
+        for (drawn, told) in [(plain, plain), (plain, both), (both, plain), (both, both)] {
+            let text = draw_as(&p, drawn).unwrap();
+            assert!(text.bytes().all(|b| matches!(b, b' '..=b'~' | b'\n')));
+            assert_eq!(read_as(&text, told), Ok(p.clone()));
+            assert_eq!(read(&text), Err(Refusal::Undrawn));
+            assert_eq!(read_as(draw(&p).unwrap(), told), Err(Refusal::Undrawn));
+        }
+    }
+    assert_eq!(draw_as(&example(), plain).unwrap(), printed);
+    for title in ["\u{1f}", "\u{7f}", "\t", "π", "a\r\nb"] {
+        let refusal = draw_as(&plan(&[(0, "a"), (1, title), (1, "é")]), both).unwrap_err();
+        assert_eq!((refusal, refusal.number()), (Refusal::Plain { node: 1 }, 17));
+        assert_eq!(refusal.to_string(), "the title of node 1 has a byte that is not printed in plain characters: only 20 to 7E and line breaks are");
+        // a picture that has such a title is none, though it is drawn of plain marks
+        let drawn = draw_as(&plan(&[(0, "a")]), plain).unwrap().replace("| a |", &format!("| {title} |"));
+        assert_eq!(read_as(drawn, plain), Err(Refusal::Undrawn));
+    }
+    let (mut canvas, mut out) = ([0xA5A5A5A5; 300], [0xA5; 400]);
+    assert_eq!(lent::text_as(&TABLE, b"a\x7Fc", plain, &mut canvas, &mut out), Err(Refusal::Plain { node: 1 }));
+    assert_eq!(lent::text_as(&TABLE, b"\x7Fb\xFF", plain, &mut canvas, &mut out), Err(Refusal::Utf8 { node: 2 }));
+    assert!(unchanged(&canvas, &out));
+}
+
+#[test]
 fn each_refusal_of_a_picture() {
     let said = |picture: &[u8]| {
         let refusal = read(picture).unwrap_err();

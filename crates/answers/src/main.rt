@@ -6,7 +6,6 @@ use plan_file::word;
 use plan_file::words;
 use rules::Answer;
 use rules::Drawing;
-use rules::Measure;
 use rules::Reading;
 use text::wide;
 
@@ -16,13 +15,13 @@ fn bad() -> bool {
     false
 }
 
-// The kinds of request, and the looks that each takes: 1, fitted boxes, for a drawing and for a picture.
+// The kinds of request, and the looks that each takes: 1, fitted boxes, and 2, plain characters, for a drawing and for a picture.
 fn known(kind: u32, look: u32) -> bool {
     if kind == 0 {
-        return look < 2;
+        return look < 4;
     }
     if kind == 3 {
-        return look < 2;
+        return look < 4;
     }
     if 0 < look {
         return false;
@@ -43,7 +42,9 @@ fn drawing(look: u32, table: &[u32], titles: &[u8], cells: &mut [u32], out: &mut
     if look == 0 {
         return tree_format::tree_fmt_text(table, titles, cells, out);
     }
-    tree_format::draw(table, titles, Measure::Points, cells, out)
+    let measure = rules::measure_of(look);
+    let profile = rules::profile_of(look);
+    tree_format::draw(table, titles, measure, profile, cells, out)
 }
 
 // Draws a plan or its graph, and prints the answer.
@@ -188,7 +189,9 @@ fn read(
     if look == 0 {
         return picture::read(picture, cells, table, titles);
     }
-    picture::read_as(picture, Measure::Points, cells, table, titles)
+    let measure = rules::measure_of(look);
+    let profile = rules::profile_of(look);
+    picture::read_as(picture, measure, profile, cells, table, titles)
 }
 
 // Reads a picture with all lent memory fresh, prints the answer, and sums the memory up.

@@ -4,11 +4,10 @@ ghost use lib.ListN.{length};
 ghost use Rattle.rules.specs.Look.{base};
 ghost use Rattle.rules.specs.Graph.{bare, fenced};
 ghost use Rattle.rules.specs.Answers.{drawing, canvasAfter, outAfter, graphAnswer, graphAfter};
+ghost use Rattle.rules.specs.Switches.{lookIn};
 ghost use Rattle.girthladder.specs.Five.{drawingFive, graphFive, readingFive, ReadFive};
-ghost use Rattle.girthladder.specs.Switches.{measureOf, lookIn};
 use rules::Answer;
 use rules::Drawing;
-use rules::Measure;
 use rules::Reading;
 
 // The same number.
@@ -59,16 +58,6 @@ fn reading_five(r: Reading) -> [u64; 5]
     ]
 }
 
-// The measure that the switches of a look say.
-fn measure_of(look: u32) -> Measure
-    ensures { λ r. ⌜ r ≡ measureOf look ⌝ }
-{
-    if look % 2 == 1 {
-        return Measure::Points;
-    }
-    Measure::Bytes
-}
-
 // Draws a plan on the lent canvas and writes its text to `out`.
 #[no_mangle]
 pub extern "C" fn girthladder_text(
@@ -100,7 +89,9 @@ pub extern "C" fn girthladder_text_as(
     ensures canvas_left { λ _. ⌜ now (canvas .exit) ≡ canvasAfter (lookIn look) (now (table .entry)) (now (titles .entry)) (length (now (out .entry))) (now (canvas .entry)) ⌝ }
     ensures out_left { λ _. ⌜ now (out .exit) ≡ outAfter (lookIn look) (now (table .entry)) (now (titles .entry)) (length (now (canvas .entry))) (now (out .entry)) ⌝ }
 {
-    let d = tree_format::draw(table, titles, measure_of(look), canvas, out);
+    let measure = rules::measure_of(look);
+    let profile = rules::profile_of(look);
+    let d = tree_format::draw(table, titles, measure, profile, canvas, out);
     *answer = drawing_five(d);
 }
 
@@ -163,6 +154,8 @@ pub extern "C" fn girthladder_read_as(
     ensures { λ _. ⌜ ReadFive (lookIn look) (now (picture .entry)) (now (canvas .entry)) (now (table .entry)) (now (titles .entry))
         (now (canvas .exit)) (now (table .exit)) (now (titles .exit)) (now (answer .exit)) ⌝ }
 {
-    let r = picture::read_as(picture, measure_of(look), canvas, table, titles);
+    let measure = rules::measure_of(look);
+    let profile = rules::profile_of(look);
+    let r = picture::read_as(picture, measure, profile, canvas, table, titles);
     *answer = reading_five(r);
 }

@@ -4,6 +4,8 @@ pub mod Plans
 pub mod Empties
 pub mod Nodes
 pub mod Accepted
+pub mod Refused
+pub mod Allowed
 pub mod Runs
 pub mod Tests
 pub mod Between

@@ -14,7 +14,7 @@ use Rattle.rules.specs.Base.{pick, first}
 use Rattle.rules.specs.Numbers.{ragged, many, noNode, badDepth, badTitle, badUtf8, firstSuch, afterCount, afterNodes}
 use Rattle.rules.specs.declared.Answer.{Answer}
 use Rattle.rules.proofs.Firsts.{first-same}
-use Rattle.levels.specs.Accepted.{checked}
+use Rattle.levels.specs.Accepted.{checked, fineBytes, badBytes}
 use Rattle.levels.proofs.Plans.{node-plan, depth-whole, depth-bytes}
 use Rattle.rules.proofs.Tests.{neither}
 pub use Rattle.rules.proofs.Tests.{both as and-true}
@@ -97,10 +97,14 @@ module _ (T B : List ℕ) (k : ℕ) where
       let b = neither (ltb (length B) (startIn T k + sizeIn T k)) (ltb 1024 (sizeIn T k)) e in
       (ltb-false (length B) (startIn T k + sizeIn T k) (b .0), ltb-false 1024 (sizeIn T k) (b .1))
 
--- 6 UTF8 is asked of the title that lies in the title bytes
-pub wrong-bytes : (T B : List ℕ) (k : ℕ) → k < count T → badUtf8 (planOf T B) k ≡ not (valid (titleIn T B k))
-unfolding badUtf8
-wrong-bytes T B k h = ap (λ (n : Node). not (valid (n .title))) (node-plan T B k h)
+-- 6 UTF8 and 17 PLAIN are asked of the title that lies in the title bytes
+pub wrong-bytes : (plain : Bool) (T B : List ℕ) (k : ℕ) → k < count T → badBytes plain (planOf T B) k ≡ not (fineBytes plain (titleIn T B k))
+unfolding badBytes
+wrong-bytes plain T B k h = ap (λ (n : Node). not (fineBytes plain (n .title))) (node-plan T B k h)
+
+first-utf8 : (p : List Node) (n : ℕ) → first (badUtf8 p) n ≡ first (badBytes false p) n
+unfolding badUtf8 badBytes
+first-utf8 p n = refl
 
 -- refusal 4 goes by the table alone
 pub depths-bytes : (T B : List ℕ) (n : ℕ) → first (badDepth (planOf T B)) n ≡ first (badDepth (planOf T [])) n
@@ -123,13 +127,13 @@ module _ (T B : List ℕ) (next : Answer) (n : ℕ) (en : n ≡ count T) where
     stops-title t e h = rw (← en, depths-bytes T B n, ← ed, le-ltb d n hd, ← e, lt-ltb t n h)
 
     module _ (t : ℕ) (et : t ≡ first (badTitle T B) n) (ht : n ≤ t) where
-      pub stops-utf8 : (u : ℕ) → u ≡ first (badUtf8 (planOf T B)) n → u < n → Answer.Utf8 u ≡ afterNodes T B next
+      pub stops-utf8 : (u : ℕ) → u ≡ first (badBytes false (planOf T B)) n → u < n → Answer.Utf8 u ≡ afterNodes T B next
       unfolding afterNodes firstSuch pick
-      stops-utf8 u e h = rw (← en, depths-bytes T B n, ← ed, le-ltb d n hd, ← et, le-ltb t n ht, ← e, lt-ltb u n h)
+      stops-utf8 u e h = rw (← en, depths-bytes T B n, ← ed, le-ltb d n hd, ← et, le-ltb t n ht, first-utf8 (planOf T B) n, ← e, lt-ltb u n h)
 
-      pub stops-none : (u : ℕ) → u ≡ first (badUtf8 (planOf T B)) n → n ≤ u → next ≡ afterNodes T B next
+      pub stops-none : (u : ℕ) → u ≡ first (badBytes false (planOf T B)) n → n ≤ u → next ≡ afterNodes T B next
       unfolding afterNodes firstSuch pick
-      stops-none u e h = rw (← en, depths-bytes T B n, ← ed, le-ltb d n hd, ← et, le-ltb t n ht, ← e, le-ltb u n h)
+      stops-none u e h = rw (← en, depths-bytes T B n, ← ed, le-ltb d n hd, ← et, le-ltb t n ht, first-utf8 (planOf T B) n, ← e, le-ltb u n h)
 
 -- refusals 1 to 3
 module _ (some : Bool) (T B : List ℕ) where

@@ -1,17 +1,27 @@
 -- Refusals 1 to 6 as the code asks for them, and what a table is that none of them meets.
 use mathlib.Core.Path.{_≡_}
 use mathlib.Core.List.{List}
-use mathlib.Core.Bool.{Bool, false, _&&_}
+use mathlib.Core.Bool.{Bool, true, false, not, _&&_}
 use Prim.Native.Nat.{ℕ, _*_, _≤_, _<_}
 use lib.ListN.{length}
-use Rattle.rules.specs.Base.{pick}
-use Rattle.rules.specs.Plan.{mostNodes, count, planOf}
+use Rattle.rules.specs.Base.{pick, every}
+use Rattle.rules.specs.Utf8.{valid}
+use Rattle.rules.specs.Plan.{Node, mostNodes, count, planOf, nodeAt}
+use Rattle.rules.specs.Look.{printed}
 use Rattle.rules.specs.Numbers.{noNode, badDepth, badTitle, badUtf8, afterCount, afterNodes}
 use Rattle.rules.specs.declared.Answer.{Answer}
 
 -- the first of refusals 1 to 6, number 3 only where some node is asked for; Done 0 if there is none
 unfoldable pub checked : Bool → List ℕ → List ℕ → Answer
 checked some T B = afterCount T (pick (some && noNode T) Answer.None (afterNodes T B (Answer.Done 0)))
+
+-- what is asked of a title's bytes: 6 that they are valid, 17 that the plain profile prints them
+abbrev pub fineBytes : (plain : Bool) → List ℕ → Bool
+fineBytes false t = valid t
+fineBytes true t = every printed t
+
+unfoldable pub badBytes : (plain : Bool) → List Node → ℕ → Bool
+badBytes plain p k = not (fineBytes plain (nodeAt p k .title))
 
 -- a table of whole nodes, few enough, each with a good depth and a good title
 pub record Accepted (T B : List ℕ) : Type 0 where

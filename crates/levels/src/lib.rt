@@ -1,10 +1,13 @@
-// The plan table: refusals 1 to 6, rows and columns, and the cells of a row.
+// The plan table: refusals 1 to 6 and 17, rows and columns, and the cells of a row.
 mod place;
+mod profile;
 mod refuse;
 mod titles;
 mod walk;
 
 pub use place::columns;
+pub use profile::keeps;
+pub use profile::refusal;
 pub use refuse::bad_depth;
 pub use refuse::first_refusal;
 pub use titles::title;

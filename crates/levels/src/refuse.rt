@@ -5,8 +5,9 @@ ghost use Prim.Native.Nat.{ℕ, _≤_, _<_, _+_, _*_};
 ghost use lib.ListN.{length};
 ghost use Rattle.rules.specs.Base.{first};
 ghost use Rattle.rules.specs.Plan.{count, startIn, sizeIn, planOf};
-ghost use Rattle.rules.specs.Numbers.{badDepth, badTitle, badUtf8, afterNodes};
-ghost use Rattle.levels.specs.Accepted.{checked};
+ghost use Rattle.rules.specs.Numbers.{badDepth, badTitle, afterNodes};
+ghost use Rattle.levels.specs.Accepted.{checked, fineBytes, badBytes};
+use crate::profile::all_printed;
 use crate::titles::title;
 use rules::Answer;
 
@@ -74,15 +75,25 @@ fn bad_title(table: &[u32], nodes: usize, titles: &[u8]) -> usize
     nodes
 }
 
-// The first node whose title is not valid UTF-8, or nodes.
-fn bad_utf8(table: &[u32], nodes: usize, titles: &[u8]) -> usize
+// A title's bytes pass one of two tests: valid UTF-8, or what the plain profile prints.
+fn fine_bytes(title: &[u8], plain: bool) -> bool
+    ensures { λ r. ⌜ r ≡ fineBytes plain (now (title .entry)) ⌝ }
+{
+    if plain {
+        return all_printed(title);
+    }
+    utf8_valid::valid(title)
+}
+
+// The first node whose title's bytes do not pass the test, or nodes.
+pub(crate) fn bad_bytes(table: &[u32], nodes: usize, titles: &[u8], plain: bool) -> usize
     requires { ⌜ (nodes ≡ count (now table)) × (length (now table) ≡ 3 * count (now table)) ⌝ }
     requires { ⌜ ((k : ℕ) → k < nodes → startIn (now table) k + sizeIn (now table) k ≤ length (now titles)) ⌝ }
-    ensures { λ r. ⌜ r ≡ first (badUtf8 (planOf (now (table .entry)) (now (titles .entry)))) nodes ⌝ }
+    ensures { λ r. ⌜ r ≡ first (badBytes plain (planOf (now (table .entry)) (now (titles .entry)))) nodes ⌝ }
 {
     let mut k = 0;
     while k < nodes {
-        if !utf8_valid::valid(title(table, k, titles)) {
+        if !fine_bytes(title(table, k, titles), plain) {
             return k;
         }
         k += 1;
@@ -103,7 +114,7 @@ fn node_refusal(table: &[u32], nodes: usize, titles: &[u8]) -> Answer
     if t < nodes {
         return Answer::Title(t);
     }
-    let u = bad_utf8(table, nodes, titles);
+    let u = bad_bytes(table, nodes, titles, false);
     if u < nodes {
         return Answer::Utf8(u);
     }

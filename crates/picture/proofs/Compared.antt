@@ -44,7 +44,7 @@ module _ (look : Look) (ok : Lawful (look .len) (look .marks)) where
   text-shows p o =
       let c = compares look ok p o in
       let q = ordinary-plan look p o in
-      let w = drawn-wide len marks ok p (q .drawable) (λ n m. valid-title (n .title) (q .titles n m)) in
+      let w = drawn-wide len marks ok p (q .drawable) (λ n m. valid-title (look .allowed) (n .title) (q .titles n m)) in
       record {
         wide = w;
         high = c .high-as;

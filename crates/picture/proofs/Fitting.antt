@@ -66,11 +66,11 @@ module _ (look : Look) (ok : Lawful (look .len) (look .marks)) where
   open Look look using (len, marks)
 
   module _ (p : List Node) (o : ordinary look p ≡ true) where
-    q : Ordinary-plan p
+    q : Ordinary-plan look p
     q = ordinary-plan look p o
 
     titles : (n : Node) → List·Memᴰ n p → valid (n .title) ≡ true
-    titles n m = valid-title (n .title) (q .titles n m)
+    titles n m = valid-title (look .allowed) (n .title) (q .titles n m)
 
     L : Laid (view p)
     L = laid len marks p (q .drawable)
@@ -132,13 +132,13 @@ module _ (look : Look) (ok : Lawful (look .len) (look .marks)) where
     text-fits = rw (drawn-wide len marks ok p (q .drawable) titles, drawn-high len marks ok p (q .drawable) titles) (λ c m. cell-fits c (rw found-all at m))
 
   -- a title of an ordinary plan
-  title-short : (t : List ℕ) → ordinaryTitle t ≡ true → length t ≤ 1024
+  title-short : (t : List ℕ) → ordinaryTitle (look .allowed) t ≡ true → length t ≤ 1024
   unfolding ordinaryTitle
   title-short t e =
-      let a = both (leb 1 (length t) && every (λ l. not (endsInSpace l)) (linesOf t) && leb (length t) 1024) (valid t) e in
+      let a = both (leb 1 (length t) && every (λ l. not (endsInSpace l)) (linesOf t) && leb (length t) 1024) (valid t) (both _ (every (look .allowed) t) e .0) in
       leb-true (length t) 1024 (both (leb 1 (length t) && every (λ l. not (endsInSpace l)) (linesOf t)) (leb (length t) 1024) (a .0) .1)
 
-  node-title : (p : List Node) → ordinary look p ≡ true → (k : ℕ) → k < length p → ordinaryTitle (nodeAt p k .title) ≡ true
+  node-title : (p : List Node) → ordinary look p ≡ true → (k : ℕ) → k < length p → ordinaryTitle (look .allowed) (nodeAt p k .title) ≡ true
   unfolding nodeAt
   node-title p o k l = ordinary-plan look p o .titles (nodeAt p k) (getD-mem (record { depth = 0; title = [] }) p k l)
 
@@ -164,7 +164,7 @@ module _ (look : Look) (ok : Lawful (look .len) (look .marks)) where
     pub misfit-none : Misfit len marks (canvasRead P old) (pictureWidth P) (length (pictureLines P))
         → Draws look (planSeen marks (canvasRead P old) (pictureWidth P) (length (pictureLines P))) P → ⊥
     misfit-none (many l) d = omega (arith, ordinary-plan look _ (d .0) .drawable .sized)
-    misfit-none (untitled k l z) d = omega (arith, good-title _ (node-title _ (d .0) k l) .some)
+    misfit-none (untitled k l z) d = omega (arith, good-title (look .allowed) _ (node-title _ (d .0) k l) .some)
     misfit-none (long k l z) d = omega (arith, title-short _ (node-title _ (d .0) k l))
     misfit-none (beside k l f) d = f (fits k l d .centred)
     misfit-none (loose k l f) d = f (fits k l d .filled)

@@ -5,7 +5,7 @@ use mathlib.Core.Bool.{true}
 use Prim.Native.Nat.{ℕ, _*_, _-_, _≤_, _<_}
 use native.Mathlib.Omega.{arith}
 use lib.ListN.{length, getD, take, replicate, length-take}
-use Rattle.rules.specs.Base.{first}
+use Rattle.rules.specs.Base.{every, first}
 use Rattle.rules.specs.Lines.{linesOf}
 use Rattle.rules.specs.Plan.{Node, count, depthIn, planOf, nodeAt, depthAt}
 use Rattle.rules.specs.Numbers.{badDepth}
@@ -146,8 +146,8 @@ module _ (look : Look) (short : Short (look .len)) {cells : List ℕ} {w h nodes
     }
 
     -- and where the picture shows the drawing, the plan is accepted
-    pub accept : Pictured (look .len) (look .marks) (view (planSeen (look .marks) cells w h)) (seen cells w h) w h → Accepted look cells w h
-    accept q = record {
-      is-ordinary = gathered-ordinary look cells w h nodes bytes (kept .whole) middle lines most (kept .gathered) (pic .held) s d (pic .small) q;
+    pub accept : ((t : List ℕ) → every (look .allowed) t ≡ true) → Pictured (look .len) (look .marks) (view (planSeen (look .marks) cells w h)) (seen cells w h) w h → Accepted look cells w h
+    accept any q = record {
+      is-ordinary = gathered-ordinary look cells w h nodes bytes (kept .whole) middle lines most (kept .gathered) (pic .held) any s d (pic .small) q;
       shown = q;
     }

@@ -2,6 +2,7 @@ pub mod Titles
 pub mod Stored
 pub mod Giving
 pub mod OnCanvas
+pub mod Kept
 pub mod Compared
 pub mod Titled
 pub mod Fitting

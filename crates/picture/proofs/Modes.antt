@@ -14,10 +14,11 @@ use Rattle.rules.specs.Levels.{Cell, View, view, inRow, inColumn}
 use Rattle.rules.specs.Measures.{linesIn, lineCount, longest, width, columnOffset, columnCentre, canvasWidth, cx, area}
 use Rattle.rules.specs.Strokes.{Stroke}
 use Rattle.rules.specs.Drawing.{Marks, boxes, boxLeft, lineOf, axis, rowIndex, columnIndex, label, box, teeUp, straight, bends, bend, connector, strokes, picture, text}
-use Rattle.rules.specs.Look.{lenOf, lookOf, base}
+use Rattle.rules.specs.Look.{lenOf, marksOf, lookOf}
 use Rattle.rules.specs.Ordinary.{ordinary}
 use Rattle.rules.specs.Reader.{Draws}
 use Rattle.rules.specs.declared.Measure.{Measure}
+use Rattle.rules.specs.declared.Profile.{Profile}
 use Rattle.rules.proofs.Keeps.{kept-mem}
 use Rattle.rules.proofs.Text.{each-same}
 use Rattle.marks.specs.Plan.{cells, nodeView}
@@ -116,10 +117,10 @@ module _ (p : List Node) (a : Plain p) where
   area-alike m = rw (wide-same (lenOf m) length boxes (view p) (agrees m boxes))
 
   -- a plan that is ordinary in one is ordinary in the other,
-  pub ordinary-alike : (m : Measure) → ordinary (lookOf m) p ≡ ordinary base p
+  pub ordinary-alike : (m : Measure) (f : Profile) → ordinary (lookOf m f) p ≡ ordinary (lookOf Measure.Bytes f) p
   unfolding ordinary
-  ordinary-alike m = rw (area-alike m)
+  ordinary-alike m f = rw (area-alike m)
 
   -- and what is drawn in one is read back in the other
-  pub read-alike : (m n : Measure) → ordinary (lookOf m) p ≡ true → Draws (lookOf n) p (text (lenOf m) boxes p)
-  read-alike m n o = (ordinary-alike n ∙ sym (ordinary-alike m) ∙ o, drawn-alike n boxes ∙ sym (drawn-alike m boxes))
+  pub read-alike : (f : Profile) (m n : Measure) → ordinary (lookOf m f) p ≡ true → Draws (lookOf n f) p (text (lenOf m) (marksOf f) p)
+  read-alike f m n o = (ordinary-alike n f ∙ sym (ordinary-alike m f) ∙ o, drawn-alike n (marksOf f) ∙ sym (drawn-alike m (marksOf f)))

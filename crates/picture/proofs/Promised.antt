@@ -1,20 +1,25 @@
 -- The reader's promise, answer by answer: a refusal before the picture is on the canvas, a refusal after it, and a plan that is found.
 use mathlib.Core.Path.{_≡_, refl, sym, _∙_}
 use mathlib.Core.List.{List}
-use mathlib.Core.Bool.{Bool, true, false}
+use mathlib.Core.Bool.{Bool, true, false, not, _&&_, false≢true}
 use Prim.Native.Nat.{ℕ, _-_, _≤_}
 use native.Mathlib.Nat.{mul-le-mul-left, mul-le-mul-right}
 use native.Mathlib.Omega.{arith}
+use lib.Dec.{ltb}
 use lib.ListN.{length, take}
-use borrow.Author.Tests.{ne-eqb}
-use Rattle.rules.specs.Look.{Look}
-use Rattle.rules.specs.Base.{pick}
+use borrow.Author.Tests.{ne-eqb, ltb-false, not-true}
+use Rattle.rules.specs.Look.{Look, allowedIn}
+use Rattle.rules.specs.declared.Profile.{Profile}
+use Rattle.rules.specs.Base.{pick, every}
 use Rattle.rules.specs.Utf8.{points}
 use Rattle.rules.specs.Plan.{Node}
 use Rattle.rules.specs.Numbers.{readerNumber}
 use Rattle.rules.specs.Reader.{Found, plan, nothing, pictureLines, pictureWidth, placed, canvasRead, tableOf, titlesOf, delivered, reading, writtenBy, Draws, Reads}
 use Rattle.rules.specs.declared.Reading.{Reading}
+use Rattle.rules.proofs.Tests.{both}
 use Rattle.rules.proofs.Candidate.{reads}
+use Rattle.rules.proofs.Everywhere.{Holds}
+use Rattle.rules.proofs.Kept.{Kept, every-byte}
 use Rattle.rules.proofs.Lines.{linesOf-some}
 use Rattle.marks.proofs.Reader.{reads-right}
 use Rattle.marks.specs.Lawful.{Lawful}
@@ -23,6 +28,7 @@ use Rattle.picture_lay.proofs.Refusals.{reading-started, passed, stopped, put-t
 use Rattle.picture_sight.specs.Plan.{planSeen}
 use Rattle.picture.specs.Answered.{Picture, Answered, refused, accepted}
 use Rattle.picture.proofs.OnCanvas.{held-cells, cells-there, cells-few}
+use Rattle.picture.proofs.Kept.{allowing, ordinary-with, keeps-drawn, drawn-keeps}
 use Rattle.picture.proofs.Theorems.{accepted-is-drawn, undrawn-is-none, spaced-is-none, empty-is-none}
 
 -- only done writes
@@ -82,22 +88,31 @@ module _ (look : Look) (ok : Lawful (look .len) (look .marks)) (P old table titl
       titles-left = refl;
     }
 
-    pub no-width : width ≡ 0 → Reads look P old table titles Reading.Undrawn new table titles
-    no-width z = none-drawn (empty-is-none look ok P (sym (st .wide h) ∙ z))
+    -- one that is not drawable: a line ends in a space, or all are empty, or a byte is not the profile's
+    module _ (k : Holds (Kept (look .allowed)) (look .marks)) (end : look .allowed 0x0A ≡ true) where
+      pub not-drawable : (not spaces && ltb 0 width && every (look .allowed) P) ≡ false → Reads look P old table titles Reading.Undrawn new table titles
+      not-drawable e = go spaces refl (ltb 0 width) refl (every (look .allowed) P) refl e
+        where
+          go : (s : Bool) → spaces ≡ s → (w : Bool) → ltb 0 width ≡ w → (b : Bool) → every (look .allowed) P ≡ b → (not s && w && b) ≡ false
+              → Reads look P old table titles Reading.Undrawn new table titles
+          go true i w j b l z = none-drawn (spaced-is-none look ok P (sym (st .ends h) ∙ i))
+          go false i false j b l z = none-drawn (empty-is-none look ok P (sym (st .wide h) ∙ omega (arith, ltb-false 0 width j)))
+          go false i true j false l z = none-drawn (λ q d. false≢true (sym l ∙ drawn-keeps look ok q P k end d))
+          go false i true j true l z = absurd (false≢true (sym z))
 
-    pub a-space : spaces ≡ true → Reads look P old table titles Reading.Undrawn new table titles
-    a-space s = none-drawn (spaced-is-none look ok P (sym (st .ends h) ∙ s))
-
-    -- the last answer, by what lies on the canvas
-    pub answered-so : (r : Reading) (table′ titles′ : List ℕ) → spaces ≡ false
-        → Answered look new width lines table titles r table′ titles′ → Reads look P old table titles r new table′ titles′
-    answered-so r table′ titles′ s a = go (rw (st .left, st .wide h, st .high h) at a)
+    -- the last answer, by what lies on the canvas, whatever its titles hold
+    pub answered-so : (r : Reading) (table′ titles′ : List ℕ) → Holds (Kept (look .allowed)) (look .marks) → look .allowed 0x0A ≡ true
+        → (not spaces && ltb 0 width && every (look .allowed) P) ≡ true → Answered (allowing (allowedIn Profile.Boxes) look) new width lines table titles r table′ titles′ → Reads look P old table titles r new table′ titles′
+    answered-so r table′ titles′ k end u a = go (rw (st .left, st .wide h, st .high h) at a)
       where
-        go : Answered look (canvasRead P old) (pictureWidth P) (length (pictureLines P)) table titles r table′ titles′ → Reads look P old table titles r new table′ titles′
-        go (refused f e t i) = rw (e, t, i) (none-drawn (undrawn-is-none look ok P old h f))
+        go : Answered (allowing (allowedIn Profile.Boxes) look) (canvasRead P old) (pictureWidth P) (length (pictureLines P)) table titles r table′ titles′ → Reads look P old table titles r new table′ titles′
+        go (refused f z t i) =
+            rw (z, t, i)
+            (none-drawn (λ q d. undrawn-is-none (allowing (allowedIn Profile.Boxes) look) ok P old h f q (ordinary-with look (allowedIn Profile.Boxes) q (d .0) (λ n m. every-byte (n .title)), d .1)))
         go (accepted a d) = record {
           found = plan (planSeen (look .marks) (canvasRead P old) (pictureWidth P) (length (pictureLines P)));
-          right = accepted-is-drawn look ok P old h (sym (st .ends h) ∙ s) a;
+          right = keeps-drawn (allowing (allowedIn Profile.Boxes) look) ok _ P (look .allowed) end (k .space) (both (not spaces && ltb 0 width) (every (look .allowed) P) u .1)
+              (accepted-is-drawn (allowing (allowedIn Profile.Boxes) look) ok P old h (sym (st .ends h) ∙ not-true spaces (both (not spaces) (ltb 0 width) (both (not spaces && ltb 0 width) (every (look .allowed) P) u .0) .0)) a);
           answered = d .answered ∙ sym (told (plan (planSeen (look .marks) (canvasRead P old) (pictureWidth P) (length (pictureLines P)))));
           canvas-left = st .left;
           table-left = d .table-left;

@@ -1,4 +1,4 @@
--- THE READER, for every lawful look, as each measure makes one. At most one ordinary plan is drawn as a picture; what the reader accepts
+-- THE READER, for every lawful look, as each measure with each profile is one. At most one ordinary plan is drawn as a picture; what the reader accepts
 -- was drawn so; of what it refuses no ordinary plan was drawn; and with room enough a drawing is read back to the very plan.
 use mathlib.Core.Path.{_≡_, refl, ap, sym, _∙_, subst}
 use mathlib.Core.List.{List}

@@ -18,6 +18,7 @@ use Rattle.rules.specs.Levels.{view}
 use Rattle.rules.specs.Measures.{area}
 use Rattle.rules.specs.Ordinary.{endsInSpace, ordinaryTitle, ordinary}
 use Rattle.rules.proofs.Lists.{concat-append}
+use Rattle.rules.proofs.Every.{every-all}
 use Rattle.rules.proofs.Scalars.{Scalar, scalars-valid}
 use Rattle.rules.proofs.Candidate.{from, trim, joined, lineAt, outside}
 use Rattle.marks.specs.Numbers.{Pictured}
@@ -29,11 +30,6 @@ use Rattle.picture_sight.specs.Plan.{planSeen}
 use Rattle.picture_sight.proofs.Split.{map-all}
 use Rattle.picture_gather.specs.Gathered.{Gathered}
 use Rattle.picture_sight.proofs.Letters.{seen-held, line-points, block, block-split}
-
-every-of : {A : Type 0} (t : A → Bool) (l : List A) → ((a : A) → List·Memᴰ a l → t a ≡ true) → every t l ≡ true
-unfolding every
-every-of t [] h = refl
-every-of t (a ∷ l) h = rw (h a (List·Memᴰ·head refl), every-of t l (λ b m. h b (List·Memᴰ·tail m)))
 
 every-node : (t : Node → Bool) (p : List Node) → ((k : ℕ) → k < length p → t (nodeAt p k) ≡ true) → every t p ≡ true
 unfolding every nodeAt
@@ -74,7 +70,7 @@ module _ (g : ℕ → ℕ → ℕ) (held : (x y : ℕ) → Held (g x y)) where
     title-unspaced : every (λ l. not (endsInSpace l)) (linesOf (joined (block g held x y n t))) ≡ true
     title-unspaced =
         rw (block-split g held x y n t s)
-        (every-of (λ l. not (endsInSpace l)) (block g held x y n t)
+        (every-all (λ l. not (endsInSpace l)) (block g held x y n t)
         (λ l m. map-all (λ (k : List ℕ). not (endsInSpace k) ≡ true) (λ r. lineAt g x (y + r) t) (λ r. ap not (line-unspaced x (y + r) t)) (from 0 n) m))
 
     title-valid : valid (joined (block g held x y n t)) ≡ true
@@ -86,23 +82,24 @@ module _ (g : ℕ → ℕ → ℕ) (held : (x y : ℕ) → Held (g x y)) where
         (joined-all Scalar (record { below = omega arith; apart = λ c. omega arith }) (map codes (from 0 n))
         (λ l m. map-all (λ (j : List ℕ). (k : ℕ) → List·Memᴰ k j → Scalar k) codes (λ r. line-scalar x (y + r) t) (from 0 n) m))
 
-    pub title-ordinary : (title : List ℕ) → title ≡ joined (block g held x y n t) → 1 ≤ length title → length title ≤ 1024 → ordinaryTitle title ≡ true
+    pub title-ordinary : (allowed : ℕ → Bool) (title : List ℕ) → title ≡ joined (block g held x y n t) → 1 ≤ length title → length title ≤ 1024 → every allowed title ≡ true → ordinaryTitle allowed title ≡ true
     unfolding ordinaryTitle
-    title-ordinary title e a b =
+    title-ordinary allowed title e a b k =
         rw (
           le-leb 1 (length title) a,
           le-leb (length title) 1024 b,
           ap (λ (k : List ℕ). every (λ l. not (endsInSpace l)) (linesOf k)) e ∙ title-unspaced,
           ap valid e ∙ title-valid,
+          k,
         )
 
 module _ (look : Look) (cells : List ℕ) (w h nodes bytes : ℕ) (table middle lines most : List ℕ) (ga : Gathered (look .len) (look .marks) cells w h nodes bytes table middle lines most)
-    (held : (k : ℕ) → k < w * h → Held (getD cells k 0)) where
-  pub gathered-title : (k : ℕ) → k < nodes → ordinaryTitle (nodeAt (planSeen (look .marks) cells w h) k .title) ≡ true
+    (held : (k : ℕ) → k < w * h → Held (getD cells k 0)) (any-byte : (t : List ℕ) → every (look .allowed) t ≡ true) where
+  pub gathered-title : (k : ℕ) → k < nodes → ordinaryTitle (look .allowed) (nodeAt (planSeen (look .marks) cells w h) k .title) ≡ true
   gathered-title k l =
       title-ordinary (seen cells w h) (seen-held cells w h held) (getD middle k 0 - halfUp (getD most k 0))
       (outside (seen cells w h) w h .cy (depthAt (planSeen (look .marks) cells w h) k) - getD lines k 0 / 2) (getD lines k 0) (getD most k 0) (ga .placed k l .3)
-      (nodeAt (planSeen (look .marks) cells w h) k .title) (ga .lettered k l) (ga .titled k l .0) (ga .titled k l .1)
+      (look .allowed) (nodeAt (planSeen (look .marks) cells w h) k .title) (ga .lettered k l) (ga .titled k l .0) (ga .titled k l .1) (any-byte _)
 
   pub gathered-ordinary : 1 ≤ nodes → first (badDepth (planSeen (look .marks) cells w h)) (length (planSeen (look .marks) cells w h)) ≡ length (planSeen (look .marks) cells w h)
       → w * h ≤ 1048576 → Pictured (look .len) (look .marks) (view (planSeen (look .marks) cells w h)) (seen cells w h) w h → ordinary look (planSeen (look .marks) cells w h) ≡ true
@@ -110,7 +107,7 @@ module _ (look : Look) (cells : List ℕ) (w h nodes bytes : ℕ) (table middle 
   gathered-ordinary s d a q =
       let p = planSeen (look .marks) cells w h in
       rw (
-        every-node (λ n. ordinaryTitle (n .title)) p (λ k l. gathered-title k (omega (arith, ga .counted))),
+        every-node (λ n. ordinaryTitle (look .allowed) (n .title)) p (λ k l. gathered-title k (omega (arith, ga .counted))),
         le-leb 1 (length p) (omega (arith, ga .counted)),
         le-leb (length p) 256 (omega (arith, ga .counted, ga .few)),
         eq-eqb (first (badDepth p) (length p)) (length p) d,

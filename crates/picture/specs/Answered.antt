@@ -4,11 +4,12 @@ use mathlib.Core.List.{List}
 use mathlib.Core.Bool.{true}
 use Prim.Native.Nat.{ℕ, _*_, _≤_, _<_}
 use lib.ListN.{length, getD, take}
-use Rattle.rules.specs.Look.{Look, lenOf, marksIn}
+use Rattle.rules.specs.Look.{Look, lenOf, marksOf, marksIn, allowedIn}
 use Rattle.rules.specs.Base.{first}
 use Rattle.rules.specs.Numbers.{badDepth}
 use Rattle.rules.specs.Levels.{view}
 use Rattle.rules.specs.declared.Measure.{Measure}
+use Rattle.rules.specs.declared.Profile.{Profile}
 use Rattle.rules.specs.declared.look.Glyphs.{Glyphs}
 use Rattle.rules.specs.Ordinary.{ordinary}
 use Rattle.rules.specs.declared.Reading.{Reading}
@@ -20,9 +21,13 @@ use Rattle.picture_sight.specs.Plan.{planSeen}
 use Rattle.picture_gather.specs.Gathered.{Gathered, Misfit}
 use Rattle.picture.specs.Standing.{Delivers}
 
--- the look as the code holds it
+-- the look as the code holds it; the profile's rule of bytes is asked of the whole picture before, and of no title here
 abbrev pub lookIn : Measure → Glyphs → Look
-lookIn m g = record { len = lenOf m; marks = marksIn g }
+lookIn m g = record { len = lenOf m; marks = marksIn g; allowed = allowedIn Profile.Boxes }
+
+-- the look of a measure and a profile, any byte in a title
+abbrev pub anyBytes : Measure → Profile → Look
+anyBytes m f = record { len = lenOf m; marks = marksOf f; allowed = allowedIn Profile.Boxes }
 
 -- the cells hold a picture: code points that a text can hold
 pub record Picture (cells : List ℕ) (w h : ℕ) : Type 0 where

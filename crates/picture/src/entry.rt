@@ -1,19 +1,57 @@
 // The reader's entries.
-ghost use Rattle.rules.specs.Look.{base, lookOf};
+ghost use mathlib.Core.Path.{_≡_};
+ghost use mathlib.Core.Bool.{not, _&&_};
+ghost use lib.Dec.{ltb};
+ghost use Rattle.rules.specs.Base.{every};
+ghost use Rattle.rules.specs.Look.{base, allowedIn, lookOf};
 ghost use Rattle.rules.specs.Reader.{Reads};
+ghost use Rattle.picture.specs.Answered.{Picture, anyBytes, Answered};
 use crate::look::look;
 use rules::Measure;
+use rules::Profile;
 use rules::Reading;
 
-// Reads a picture whose lines are measured as told, by way of the canvas: its plan into the table and the titles.
+// A picture that a plan may be drawn as: it keeps to the bytes of the profile, it has a mark, and no line of it ends in a space.
+// (A drawing keeps to these bytes exactly when its plan does, so they are looked at once, before any title is known.)
+fn drawable(picture: &[u8], profile: Profile, width: usize, spaced: bool) -> bool
+    ensures { λ r. ⌜ r ≡ (not spaced && ltb 0 width && every (allowedIn profile) (now (picture .entry))) ⌝ }
+{
+    if spaced {
+        return false;
+    }
+    if width == 0 {
+        return false;
+    }
+    levels::keeps(picture, profile)
+}
+
+// The plan that is seen on the cells, in the marks of the profile, whatever its titles hold.
+fn look_as(
+    cells: &[u32],
+    width: usize,
+    lines: usize,
+    measure: Measure,
+    profile: Profile,
+    table: &mut [u32],
+    titles: &mut [u8],
+) -> Reading
+    requires { ⌜ Picture (now cells) width lines ⌝ }
+    ensures { λ r. ⌜ Answered (anyBytes measure profile) (now (cells .entry)) width lines (now (table .entry)) (now (titles .entry)) r (now (table .exit)) (now (titles .exit)) ⌝ }
+{
+    let g = rules::marks_of(profile);
+    look(cells, width as u32, lines as u32, measure, g, table, titles)
+}
+
+// Reads a picture whose lines are measured and whose marks are drawn as told, by way of the canvas: its plan into the table and the titles.
 pub fn read_as(
     picture: &[u8],
     measure: Measure,
+    profile: Profile,
     canvas: &mut [u32],
     table: &mut [u32],
     titles: &mut [u8],
 ) -> Reading
-    ensures { λ r. ⌜ Reads (lookOf measure) (now (picture .entry)) (now (canvas .entry)) (now (table .entry)) (now (titles .entry)) r
+    ensures { λ r. ⌜ Reads (lookOf measure profile) (now (picture .entry)) (now (canvas .entry)) (now (table .entry)) (now (titles .entry)) r
         (now (canvas .exit)) (now (table .exit)) (now (titles .exit)) ⌝ }
 {
     let p = picture_lay::start(picture, canvas);
@@ -21,30 +59,23 @@ pub fn read_as(
     if 0 < rules::reading_number(answer) {
         return answer;
     }
-    let lines = p.lines;
-    let width = p.width;
-    if width == 0 {
+    if !drawable(picture, profile, p.width, p.spaced) {
         return Reading::Undrawn;
     }
-    if p.spaced {
-        return Reading::Undrawn;
-    }
-    let g = rules::box_marks();
-    look(
-        canvas,
-        width as u32,
-        lines as u32,
-        measure,
-        g,
-        table,
-        titles,
-    )
+    look_as(canvas, p.width, p.lines, measure, profile, table, titles)
 }
 
-// Reads a picture of document 01: lines in bytes.
+// Reads a picture of document 01: lines in bytes, box characters.
 pub fn read(picture: &[u8], canvas: &mut [u32], table: &mut [u32], titles: &mut [u8]) -> Reading
     ensures { λ r. ⌜ Reads base (now (picture .entry)) (now (canvas .entry)) (now (table .entry)) (now (titles .entry)) r
         (now (canvas .exit)) (now (table .exit)) (now (titles .exit)) ⌝ }
 {
-    read_as(picture, Measure::Bytes, canvas, table, titles)
+    read_as(
+        picture,
+        Measure::Bytes,
+        Profile::Boxes,
+        canvas,
+        table,
+        titles,
+    )
 }

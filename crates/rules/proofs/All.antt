@@ -3,11 +3,12 @@ use Rattle.rules.specs.Base.{pick, keep, every, any, greatest, concat, e
 use Rattle.rules.specs.Utf8.{span, tail, never, following, continues, valid, firstBits, more, pointsFrom, points, utf8}
 use Rattle.rules.specs.Lines.{onto, linesOf, digitsIn, digits, letters, bytes}
 use Rattle.rules.specs.Plan.{count, depthIn, startIn, sizeIn, titleIn, planOf, nodeAt, depthAt, depthRule}
-use Rattle.rules.specs.Numbers.{ragged, many, noNode, badDepth, badTitle, badUtf8, firstSuch, afterCount, afterNodes}
+use Rattle.rules.specs.Numbers.{ragged, many, noNode, badDepth, badTitle, badUtf8, badPlain, firstSuch, afterCount, afterNodes, afterPlain}
 use Rattle.rules.specs.Levels.{leaf, columnAt, rowsOf, columnsOf, cellAt, view, inRow, inColumn, nextColumn, children}
 use Rattle.rules.specs.Measures.{d, height, rowOffset, rowCentre, canvasHeight, cy, longest, width, columnOffset, columnCentre, canvasWidth, cx, area}
 use Rattle.rules.specs.Strokes.{mark, over}
 use Rattle.rules.specs.Drawing.{picture, canvasOf, endOf, rowText, textOf, boxTop, boxBottom, bendRow, boxLeft, boxRight, lineOf, frame, axis, rowIndex, columnIndex, label, box, teeUp, straight, bends, bend, connector, strokes, canvas, text}
+use Rattle.rules.specs.Look.{printed, allowedIn}
 use Rattle.rules.specs.Graph.{escaped, joined, name, node, edge, entries, graph}
 use Rattle.rules.specs.Answers.{done, drew, inRoom, untitled, afterCells, afterPlan, answer, told, drawing, canvasAfter, outAfter, graphAnswer, graphAfter}
 use Rattle.rules.specs.Ordinary.{endsInSpace, ordinaryTitle, ordinary}
@@ -21,12 +22,12 @@ unfolding pick keep every any greatest concat each total first halfUp same laid
     span tail never following continues valid firstBits more pointsFrom points utf8
     onto linesOf digitsIn digits letters bytes
     count depthIn startIn sizeIn titleIn planOf nodeAt depthAt depthRule
-    ragged many noNode badDepth badTitle badUtf8 firstSuch afterCount afterNodes
+    ragged many noNode badDepth badTitle badUtf8 badPlain firstSuch afterCount afterNodes afterPlain
     leaf columnAt rowsOf columnsOf cellAt view inRow inColumn nextColumn children
     d height rowOffset rowCentre canvasHeight cy longest width columnOffset columnCentre canvasWidth cx area
     mark over picture canvasOf endOf rowText textOf boxTop boxBottom bendRow boxLeft boxRight lineOf
     frame axis rowIndex columnIndex label box teeUp straight bends bend connector strokes canvas text
-    escaped joined name node edge entries graph
+    printed allowedIn escaped joined name node edge entries graph
     done drew inRoom untitled afterCells afterPlan answer told drawing canvasAfter outAfter graphAnswer graphAfter
     endsInSpace ordinaryTitle tableOf titlesOf ended pictureLines pictureWidth pictureArea padded placed delivered reading canvasRead writtenBy ordinary
     word offsetIn countIn endsInTree formed tableIn titlesIn fileDrawing fileCanvasAfter fileOutAfter refused treetext

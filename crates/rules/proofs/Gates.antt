@@ -1,14 +1,17 @@
 -- Refusals before an answer are a gate: it lets every answer through that comes after it, or stops them all at one refusal.
 -- So are 1 and 2, 4 to 6, and all that come before a drawing's 7 and before a graph's 9, each a row of tests one after another.
-use mathlib.Core.Path.{_≡_, refl, _∙_}
+use mathlib.Core.Path.{_≡_, refl, ap, sym, _∙_}
 use mathlib.Core.List.{List}
-use mathlib.Core.Bool.{Bool, true, false}
+use mathlib.Core.Bool.{Bool, true, false, false≢true}
 use Prim.Native.Nat.{ℕ}
 use native.Mathlib.Omega.{arith}
 use lib.Dec.{ltb}
+use lib.ListN.{length}
+use borrow.Author.Tests.{eqb-true}
 use Rattle.rules.specs.Base.{pick, first}
-use Rattle.rules.specs.Numbers.{number, noNode, firstSuch, afterCount, afterNodes}
-use Rattle.rules.specs.Answers.{afterPlan}
+use Rattle.rules.specs.Plan.{Node, planOf}
+use Rattle.rules.specs.Numbers.{number, noNode, badPlain, firstSuch, afterCount, afterNodes, afterPlain}
+use Rattle.rules.specs.Answers.{done, afterPlan}
 use Rattle.rules.specs.declared.Answer.{Answer}
 
 -- a refusal that has to do with the plan, not with what is lent: neither done nor CANVAS nor ROOM
@@ -35,6 +38,22 @@ gate-then f g (lets h) (lets k) = lets (λ next. h (g next) ∙ k next)
 gate-then f g (lets h) (stops a e k) = stops a e (λ next. h (g next) ∙ k next)
 gate-then f g (stops a e h) k = stops a e (λ next. h (g next))
 
+-- by what it makes of Done: done, and it lets all through; else it stops all at that
+pub gate-next : {before : Answer → Answer} → Gate before → done (before (Answer.Done 0)) ≡ true → (next : Answer) → before next ≡ next
+gate-next (lets h) e next = h next
+gate-next (stops a s h) e next = absurd (s .not-done (eqb-true (number a) 0 (unfold done in ap done (sym (h (Answer.Done 0))) ∙ e)))
+
+pub gate-stops : {before : Answer → Answer} → Gate before → done (before (Answer.Done 0)) ≡ false → (next : Answer) → before next ≡ before (Answer.Done 0)
+unfolding done
+gate-stops (lets h) e next = absurd (false≢true (sym e ∙ ap done (h (Answer.Done 0))))
+gate-stops (stops a s h) e next = h next ∙ sym (h (Answer.Done 0))
+
+-- where something passes it, Done does
+pub gate-passed : {before : Answer → Answer} → Gate before → (next : Answer) → done (before next) ≡ true → done (before (Answer.Done 0)) ≡ true
+unfolding done
+gate-passed (lets h) next e = ap done (h (Answer.Done 0))
+gate-passed (stops a s h) next e = ap done (h (Answer.Done 0) ∙ sym (h next)) ∙ e
+
 early : (a : Answer) (n : ℕ) → number a ≡ n → (n ≡ 0 → ⊥) → (n ≡ 8 → ⊥) → (n ≡ 9 → ⊥) → Early a
 early a n e d c r = record { not-done = λ z. d (omega arith); not-canvas = λ z. c (omega arith); not-room = λ z. r (omega arith) }
 
@@ -57,10 +76,16 @@ gate-nodes T B =
 pub gate-graph : (T B : List ℕ) → Gate (λ next. afterCount T (afterNodes T B next))
 gate-graph T B = gate-then (afterCount T) (afterNodes T B) (gate-count T) (gate-nodes T B)
 
-pub gate-plan : (T B : List ℕ) → Gate (afterPlan T B)
+pub gate-plain : (allowed : ℕ → Bool) (p : List Node) → Gate (afterPlain allowed p)
+unfolding afterPlain
+gate-plain allowed p =
+    gate-first (badPlain allowed p) (length p) Answer.Plain (λ k. early (Answer.Plain k) 17 refl (λ e. omega arith) (λ e. omega arith) (λ e. omega arith))
+
+pub gate-plan : (allowed : ℕ → Bool) (T B : List ℕ) → Gate (afterPlan allowed T B)
 unfolding afterPlan
-gate-plan T B =
-    gate-then (afterCount T) (λ k. pick (noNode T) Answer.None (afterNodes T B k)) (gate-count T)
-    (gate-then (λ k. pick (noNode T) Answer.None k) (afterNodes T B)
+gate-plan allowed T B =
+    let plain = afterPlain allowed (planOf T B) in
+    gate-then (afterCount T) (λ k. pick (noNode T) Answer.None (afterNodes T B (plain k))) (gate-count T)
+    (gate-then (λ k. pick (noNode T) Answer.None k) (λ k. afterNodes T B (plain k))
     (gate-pick (noNode T) Answer.None (early Answer.None 3 refl (λ e. omega arith) (λ e. omega arith) (λ e. omega arith)))
-    (gate-nodes T B))
+    (gate-then (afterNodes T B) plain (gate-nodes T B) (gate-plain allowed (planOf T B))))

@@ -56,7 +56,7 @@ module _ (Q : ℕ → Type 0) where
 
   answer-done : (look : Look) (T B : List ℕ) (cells room : ℕ) → (length (text (look .len) (look .marks) (planOf T B)) ≤ room → Q (length (text (look .len) (look .marks) (planOf T B)))) → Done Q (answer look T B cells room)
   unfolding answer
-  answer-done look T B cells room q = gated (afterPlan T B) (gate-plan T B) _ (celled _ cells room _ q)
+  answer-done look T B cells room q = gated (afterPlan (look .allowed) T B) (gate-plan (look .allowed) T B) _ (celled _ cells room _ q)
 
   chosen : (b : Bool) (d e : Drawing) → Done Q (d .answer) → Done Q (e .answer) → Done Q (pick b d e .answer)
   unfolding pick

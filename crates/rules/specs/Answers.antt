@@ -1,5 +1,5 @@
 -- Document 01, "Numbers it answers with": the order, what a drawing and a graph answer, and what they leave in the lent memory.
--- Document 02: over the look (iv).
+-- Document 02: over the look (iv, xiii).
 -- T is the table, B the title bytes; `cells` and `room` are the lengths of the lent cells and output.
 use mathlib.Core.List.{List}
 use mathlib.Core.Bool.{Bool, _||_}
@@ -8,7 +8,7 @@ use lib.Dec.{ltb, eqb}
 use lib.ListN.{length}
 use Rattle.rules.specs.Base.{pick, keep, laid}
 use Rattle.rules.specs.Plan.{Node, mostCells, planOf}
-use Rattle.rules.specs.Numbers.{number, noNode, afterCount, afterNodes}
+use Rattle.rules.specs.Numbers.{number, noNode, afterCount, afterNodes, afterPlain}
 use Rattle.rules.specs.Levels.{view}
 use Rattle.rules.specs.Measures.{canvasWidth, canvasHeight, area}
 use Rattle.rules.specs.Drawing.{canvas, text}
@@ -40,21 +40,22 @@ inRoom room needed = pick (ltb room needed) (Answer.Room needed) (Answer.Done ne
 unfoldable pub untitled : List Node → ℕ
 untitled p = length (keep (λ n. eqb (length (n .title)) 0) p)
 
--- numbers 1 to 6 in this order, and what comes after
-unfoldable pub afterPlan : List ℕ → List ℕ → Answer → Answer
-afterPlan T B next =
+-- numbers 1 to 6 in this order, 17 after them, and what comes after
+unfoldable pub afterPlan : (ℕ → Bool) → List ℕ → List ℕ → Answer → Answer
+afterPlan allowed T B next =
     afterCount T
     (pick (noNode T) Answer.None
     (afterNodes T B
-    next))
+    (afterPlain allowed (planOf T B)
+    next)))
 
 module _ (look : Look) where
-  open Look look using (len, marks)
+  open Look look using (len, marks, allowed)
 
   -- 7, 8 and 9 after them
   unfoldable pub answer : List ℕ → List ℕ → ℕ → ℕ → Answer
   answer T B cells room =
-      afterPlan T B
+      afterPlan allowed T B
       (afterCells (area len (view (planOf T B))) cells
       (inRoom room (length (text len marks (planOf T B)))))
 
@@ -81,7 +82,7 @@ module _ (look : Look) where
   outAfter T B cells old = pick (done (answer T B cells (length old))) (laid (text len marks (planOf T B)) old) old
 
 module _ (form : Form) where
-  -- Graphs use no canvas and never give 3, 7 or 8; they have no look. (Width, height and the untitled count belong to drawings.)
+  -- Graphs use no canvas and never give 3, 7 or 8; they have no marks, so they know no look and never give 17. (Width, height and the untitled count belong to drawings.)
   unfoldable pub graphAnswer : List ℕ → List ℕ → ℕ → Answer
   graphAnswer T B room = afterCount T (afterNodes T B (inRoom room (length (graph form (planOf T B)))))
 

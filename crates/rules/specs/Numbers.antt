@@ -1,10 +1,10 @@
--- Document 01, "Numbers it answers with": the table. (What is answered when, and the memory: Answers.antt.)
+-- Document 01, "Numbers it answers with": the table, and document 02's 17. (What is answered when, and the memory: Answers.antt.)
 use mathlib.Core.List.{List}
 use mathlib.Core.Bool.{Bool, not, _||_}
 use Prim.Native.Nat.{ℕ, _+_, _%_}
 use lib.Dec.{leb, ltb, eqb}
 use lib.ListN.{length}
-use Rattle.rules.specs.Base.{pick, first}
+use Rattle.rules.specs.Base.{pick, every, first}
 use Rattle.rules.specs.Utf8.{valid}
 use Rattle.rules.specs.Plan.{Node, mostNodes, mostLevels, mostTitle, count, startIn, sizeIn, planOf, nodeAt, depthAt, depthRule}
 use Rattle.rules.specs.declared.Answer.{Answer}
@@ -23,6 +23,7 @@ number Answer.Large = 7
 number (Answer.Canvas needed) = 8
 number (Answer.Room needed) = 9
 number Answer.Trailer = 11
+number (Answer.Plain node) = 17
 
 -- and their second numbers
 abbrev pub second : Answer → ℕ
@@ -37,6 +38,7 @@ second Answer.Large = 0
 second (Answer.Canvas needed) = needed
 second (Answer.Room needed) = needed
 second Answer.Trailer = 0
+second (Answer.Plain node) = node
 
 -- the numbers of the picture reader's answers
 abbrev pub readerNumber : Reading → ℕ
@@ -80,6 +82,10 @@ badTitle T B k = ltb (length B) (startIn T k + sizeIn T k) || ltb mostTitle (siz
 unfoldable pub badUtf8 : List Node → ℕ → Bool
 badUtf8 p k = not (valid (nodeAt p k .title))
 
+-- (xiii) 17 PLAIN: title that breaks the rule of the profile
+unfoldable pub badPlain : (ℕ → Bool) → List Node → ℕ → Bool
+badPlain allowed p k = not (every allowed (nodeAt p k .title))
+
 -- "first such node": the answer for the first node below n that the test holds of; if there is none, what comes after
 unfoldable pub firstSuch : (ℕ → Bool) → ℕ → (ℕ → Answer) → Answer → Answer
 firstSuch t n refusal next = pick (ltb (first t n) n) (refusal (first t n)) next
@@ -95,3 +101,7 @@ afterNodes T B next =
     (firstSuch (badTitle T B) (count T) Answer.Title
     (firstSuch (badUtf8 (planOf T B)) (count T) Answer.Utf8
     next))
+
+-- 17, over all nodes, and what comes after
+unfoldable pub afterPlain : (ℕ → Bool) → List Node → Answer → Answer
+afterPlain allowed p next = firstSuch (badPlain allowed p) (length p) Answer.Plain next

@@ -1,14 +1,18 @@
 // The limits of document 01 and the answers that all crates share. Each answer's number and second number: specs/Numbers.antt.
 mod look;
 mod numbers;
+mod switches;
 
 pub use look::Glyphs;
-pub use look::box_marks;
+pub use look::marks_of;
+pub use look::printed;
 pub use numbers::done;
 pub use numbers::number;
 pub use numbers::reading_number;
 pub use numbers::reading_second;
 pub use numbers::second;
+pub use switches::measure_of;
+pub use switches::profile_of;
 
 pub const MOST_NODES: usize = 256;
 
@@ -31,12 +35,19 @@ pub enum Answer {
     Canvas(usize),
     Room(usize),
     Trailer,
+    Plain(usize),
 }
 
 // The length of a line: its bytes, as the crate counts, or its code points.
 pub enum Measure {
     Bytes,
     Points,
+}
+
+// The marks of a drawing: box characters, or `-`, `|` and `+`.
+pub enum Profile {
+    Boxes,
+    Plain,
 }
 
 pub struct Drawing {

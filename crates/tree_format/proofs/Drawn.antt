@@ -19,9 +19,9 @@ use Rattle.rules.specs.Drawing.{Marks, canvas, text}
 use Rattle.rules.specs.Answers.{done, drew, afterCells, inRoom, untitled, afterPlan, answer, told as tellOf, drawing, canvasAfter, outAfter}
 use Rattle.rules.specs.declared.Answer.{Answer}
 use Rattle.rules.specs.declared.Drawing.{Drawing}
-use Rattle.rules.proofs.Gates.{Early, Gate, lets, stops, gate-plan}
-use Rattle.levels.specs.Accepted.{Accepted, checked}
-use Rattle.levels.proofs.Accepted.{refused, checked-accepted, checked-next, checked-stops}
+use Rattle.rules.proofs.Gates.{Early, Gate, lets, stops, gate-plan, gate-next, gate-stops}
+use Rattle.levels.specs.Accepted.{Accepted}
+use Rattle.levels.proofs.Refused.{plan-accepted}
 use Rattle.tree_format.specs.Drawn.{nothing, Written, cellsAnswer, sizes, Fills, paintAnswer, painting, paintAfter}
 
 -- the last step, as its two ends show it
@@ -53,35 +53,30 @@ module _ (len : List ℕ → ℕ) (marks : Marks) (p : List Node) (old : List �
     left = rw (le-ltb mostCells (area len (view p)) l, le-ltb (length old) (area len (view p)) h);
   }
 
--- the refusals that come before are those of `levels::first_refusal`
-plan-refused : (T B : List ℕ) (next : Answer) → afterPlan T B next ≡ refused true T B next
-unfolding afterPlan
-plan-refused T B next = refl
-
+-- the refusals that come before are a gate, and `levels::refusal` tells what it makes of Done
 module _ (look : Look) (T B : List ℕ) (old : List ℕ) where
-  open Look look using (len, marks)
+  open Look look using (len, marks, allowed)
 
   -- past them the picture decides,
-  pub paint-passed : {r : Drawing} {new : List ℕ} → done (checked true T B) ≡ true → Fills len marks (planOf T B) old r new
+  pub paint-passed : {r : Drawing} {new : List ℕ} → done (afterPlan allowed T B (Answer.Done 0)) ≡ true → Fills len marks (planOf T B) old r new
       → (r ≡ painting look T B (length old)) × (new ≡ paintAfter look T B old)
   unfolding painting paintAfter paintAnswer tellOf
   paint-passed ok q =
-      let e = plan-refused T B (cellsAnswer len (planOf T B) (length old)) ∙ checked-next true T B (cellsAnswer len (planOf T B) (length old)) ok in
+      let e = gate-next (gate-plan allowed T B) ok (cellsAnswer len (planOf T B) (length old)) in
       (q .answered ∙ rw e, q .left ∙ rw e)
 
   -- or one of them is the answer
-  pub paint-refused : {a : Answer} → a ≡ checked true T B → done a ≡ false
+  pub paint-refused : {a : Answer} → a ≡ afterPlan allowed T B (Answer.Done 0) → done a ≡ false
       → (nothing a ≡ painting look T B (length old)) × (old ≡ paintAfter look T B old)
   unfolding painting paintAfter paintAnswer tellOf pick
   paint-refused {a} q h =
-      let e : afterPlan T B (cellsAnswer len (planOf T B) (length old)) ≡ a =
-      plan-refused T B (cellsAnswer len (planOf T B) (length old))
-      ∙ checked-stops true T B (cellsAnswer len (planOf T B) (length old)) (ap done (sym q) ∙ h) ∙ sym q in
+      let e : afterPlan allowed T B (cellsAnswer len (planOf T B) (length old)) ≡ a =
+      gate-stops (gate-plan allowed T B) (ap done (sym q) ∙ h) (cellsAnswer len (planOf T B) (length old)) ∙ sym q in
       (rw (e, h), rw (e, h))
 
 -- after the picture the text, over any tests
 module _ (look : Look) (T B : List ℕ) where
-  open Look look using (len, marks)
+  open Look look using (len, marks, allowed)
 
   abbrev p : List Node
   p = planOf T B
@@ -94,7 +89,7 @@ module _ (look : Look) (T B : List ℕ) where
 
   -- the picture is painted: nothing was refused, and the cells suffice
   pub record Painted (cells : ℕ) : Type 0 where
-    pub lets-all : (next : Answer) → afterPlan T B next ≡ next
+    pub lets-all : (next : Answer) → afterPlan allowed T B next ≡ next
     pub few : needed ≤ mostCells
     pub enough : needed ≤ cells
 
@@ -104,7 +99,7 @@ module _ (look : Look) (T B : List ℕ) where
   by-cells cells false true e f h = absurd (false≢true (rw (e, f) at h))
   by-cells cells false false e f h = (ltb-false mostCells needed e, ltb-false cells needed f)
 
-  painted : (cells : ℕ) → Gate (afterPlan T B) → done (paintAnswer look T B cells) ≡ true → Painted cells
+  painted : (cells : ℕ) → Gate (afterPlan allowed T B) → done (paintAnswer look T B cells) ≡ true → Painted cells
   unfolding paintAnswer
   painted cells (lets g) h =
       let q = by-cells cells (ltb mostCells needed) (ltb cells needed) refl refl (ap done (sym (g (cellsAnswer len p cells))) ∙ h) in
@@ -113,7 +108,7 @@ module _ (look : Look) (T B : List ℕ) where
       absurd (e .not-done (eqb-true (number a) 0 (unfold done in ap done (sym (g (cellsAnswer len p cells))) ∙ h)))
 
   pub was-painted : (cells : ℕ) → done (paintAnswer look T B cells) ≡ true → Painted cells
-  was-painted cells h = painted cells (gate-plan T B) h
+  was-painted cells h = painted cells (gate-plan allowed T B) h
 
   pub painted-fits : (cells : ℕ) → done (paintAnswer look T B cells) ≡ true → (needed ≤ mostCells) × (needed ≤ cells)
   painted-fits cells h = let q = was-painted cells h in (q .few, q .enough)
@@ -158,7 +153,7 @@ module _ (look : Look) (T B : List ℕ) where
   by-tests cells room false true e f h = rw (e, f) (refl, refl)
   by-tests cells room false false e f h = absurd (false≢true (sym (rw (e, f) at h)))
 
-  stopped : (cells room : ℕ) → Gate (afterPlan T B) → done (paintAnswer look T B cells) ≡ false → Stopped cells room (paintAnswer look T B cells)
+  stopped : (cells room : ℕ) → Gate (afterPlan allowed T B) → done (paintAnswer look T B cells) ≡ false → Stopped cells room (paintAnswer look T B cells)
   unfolding answer paintAnswer
   stopped cells room (lets g) h =
       let i = g (cellsAnswer len p cells) in
@@ -172,7 +167,7 @@ module _ (look : Look) (T B : List ℕ) where
       → Drawn canvas₀ out (painting look T B (length canvas₀)) canvas₀ out
   unfolding painting drawing tellOf canvasAfter outAfter drew pick
   not-painted canvas₀ out h =
-      let q = stopped (length canvas₀) (length out) (gate-plan T B) h in
+      let q = stopped (length canvas₀) (length out) (gate-plan allowed T B) h in
       record {
         answered = rw (q .same);
         canvas-left = rw (q .same, h, q .not-room);
@@ -206,7 +201,6 @@ module _ (look : Look) (T B : List ℕ) where
 
 -- a plan that was painted is one that no refusal meets
 pub painted-accepted : (look : Look) (T B : List ℕ) (cells : ℕ) → done (paintAnswer look T B cells) ≡ true → Accepted T B
-unfolding done checked
+unfolding done
 painted-accepted look T B cells ok =
-    let q = was-painted look T B cells ok in
-    checked-accepted true T B (ap done (sym (plan-refused T B (Answer.Done 0)) ∙ q .lets-all (Answer.Done 0)))
+    plan-accepted (look .allowed) T B (ap done (was-painted look T B cells ok .lets-all (Answer.Done 0)))

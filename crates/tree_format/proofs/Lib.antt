@@ -4,3 +4,4 @@ pub mod Strokes
 pub mod Boxes
 pub mod Whole
 pub mod Measures
+pub mod Plain

@@ -13,12 +13,12 @@ use Rattle.rules.specs.Answers.{done, untitled, afterCells, afterPlan, told}
 use Rattle.rules.specs.declared.Answer.{Answer}
 use Rattle.rules.specs.declared.Drawing.{Drawing}
 
--- what is answered by one that paints the canvas and writes no text: refusals 1 to 8, or Done with no bytes;
+-- what is answered by one that paints the canvas and writes no text: refusals 1 to 8 and 17, or Done with no bytes;
 module _ (look : Look) (T B : List ℕ) where
-  open Look look using (len, marks)
+  open Look look using (len, marks, allowed)
 
   unfoldable pub paintAnswer : (cells : ℕ) → Answer
-  paintAnswer cells = afterPlan T B (afterCells (area len (view (planOf T B))) cells (Answer.Done 0))
+  paintAnswer cells = afterPlan allowed T B (afterCells (area len (view (planOf T B))) cells (Answer.Done 0))
 
   -- with the size and the untitled count, as a drawing tells them;
   unfoldable pub painting : (cells : ℕ) → Drawing

@@ -18,6 +18,7 @@ use canvas::Size;
 use rules::Answer;
 use rules::Drawing;
 use rules::Measure;
+use rules::Profile;
 
 // An answer without a drawing.
 fn undrawn(answer: Answer) -> Drawing
@@ -159,13 +160,19 @@ fn drawn(table: &[u32], titles: &[u8], style: Style, cells: &mut [u32]) -> Drawi
 }
 
 // Paints a plan on the lent canvas, without a text, and tells the size: Done with no bytes, or one of the refusals of a drawing before ROOM.
-pub fn paint(table: &[u32], titles: &[u8], measure: Measure, canvas: &mut [u32]) -> Drawing
-    ensures answered { λ r. ⌜ r ≡ painting (lookOf measure) (now (table .entry)) (now (titles .entry)) (length (now (canvas .entry))) ⌝ }
-    ensures canvas_left { λ r. ⌜ now (canvas .exit) ≡ paintAfter (lookOf measure) (now (table .entry)) (now (titles .entry)) (now (canvas .entry)) ⌝ }
+pub fn paint(
+    table: &[u32],
+    titles: &[u8],
+    measure: Measure,
+    profile: Profile,
+    canvas: &mut [u32],
+) -> Drawing
+    ensures answered { λ r. ⌜ r ≡ painting (lookOf measure profile) (now (table .entry)) (now (titles .entry)) (length (now (canvas .entry))) ⌝ }
+    ensures canvas_left { λ r. ⌜ now (canvas .exit) ≡ paintAfter (lookOf measure profile) (now (table .entry)) (now (titles .entry)) (now (canvas .entry)) ⌝ }
 {
-    let refusal = levels::first_refusal(table, titles, true);
+    let refusal = levels::refusal(table, titles, profile);
     if rules::done(refusal) {
-        let marks = rules::box_marks();
+        let marks = rules::marks_of(profile);
         let style = Style { measure, marks };
         return drawn(table, titles, style, canvas);
     }
@@ -191,19 +198,20 @@ fn written(cells: &[u32], width: usize, height: usize, untitled: usize, out: &mu
     }
 }
 
-// Draws a plan on the lent canvas and writes its text to `out`, lines measured as told.
+// Draws a plan on the lent canvas and writes its text to `out`, lines measured and marks drawn as told.
 pub fn draw(
     table: &[u32],
     titles: &[u8],
     measure: Measure,
+    profile: Profile,
     canvas: &mut [u32],
     out: &mut [u8],
 ) -> Drawing
-    ensures answered { λ r. ⌜ r ≡ drawing (lookOf measure) (now (table .entry)) (now (titles .entry)) (length (now (canvas .entry))) (length (now (out .entry))) ⌝ }
-    ensures canvas_left { λ r. ⌜ now (canvas .exit) ≡ canvasAfter (lookOf measure) (now (table .entry)) (now (titles .entry)) (length (now (out .entry))) (now (canvas .entry)) ⌝ }
-    ensures out_left { λ r. ⌜ now (out .exit) ≡ outAfter (lookOf measure) (now (table .entry)) (now (titles .entry)) (length (now (canvas .entry))) (now (out .entry)) ⌝ }
+    ensures answered { λ r. ⌜ r ≡ drawing (lookOf measure profile) (now (table .entry)) (now (titles .entry)) (length (now (canvas .entry))) (length (now (out .entry))) ⌝ }
+    ensures canvas_left { λ r. ⌜ now (canvas .exit) ≡ canvasAfter (lookOf measure profile) (now (table .entry)) (now (titles .entry)) (length (now (out .entry))) (now (canvas .entry)) ⌝ }
+    ensures out_left { λ r. ⌜ now (out .exit) ≡ outAfter (lookOf measure profile) (now (table .entry)) (now (titles .entry)) (length (now (canvas .entry))) (now (out .entry)) ⌝ }
 {
-    let painted = paint(table, titles, measure, canvas);
+    let painted = paint(table, titles, measure, profile, canvas);
     let answer = painted.answer;
     if rules::done(answer) {
         return written(canvas, painted.width, painted.height, painted.untitled, out);
@@ -211,11 +219,11 @@ pub fn draw(
     painted
 }
 
-// Draws a plan as 000 does: lines in bytes.
+// Draws a plan as 000 does: lines in bytes, box characters.
 pub fn tree_fmt_text(table: &[u32], titles: &[u8], canvas: &mut [u32], out: &mut [u8]) -> Drawing
     ensures answered { λ r. ⌜ r ≡ drawing base (now (table .entry)) (now (titles .entry)) (length (now (canvas .entry))) (length (now (out .entry))) ⌝ }
     ensures canvas_left { λ r. ⌜ now (canvas .exit) ≡ canvasAfter base (now (table .entry)) (now (titles .entry)) (length (now (out .entry))) (now (canvas .entry)) ⌝ }
     ensures out_left { λ r. ⌜ now (out .exit) ≡ outAfter base (now (table .entry)) (now (titles .entry)) (length (now (canvas .entry))) (now (out .entry)) ⌝ }
 {
-    draw(table, titles, Measure::Bytes, canvas, out)
+    draw(table, titles, Measure::Bytes, Profile::Boxes, canvas, out)
 }

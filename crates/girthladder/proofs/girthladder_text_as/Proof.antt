@@ -1,10 +1,13 @@
--- The answer, the canvas and the output are those of the drawing in that measure; the five numbers are the answer's.
+-- The answer, the canvas and the output are those of the drawing in that look; the five numbers are the answer's.
 use borrow.Author.Needs.{needs}
 use Rattle.girthladder.proofs.girthladder_text_as.Statement.{statement}
 use Rattle.girthladder.proofs.girthladder_text_as.Tie as tie
 
 measure-of-requires : tie.Need-measure-of-requires
 measure-of-requires c κs = search needs
+
+profile-of-requires : tie.Need-profile-of-requires
+profile-of-requires c κs = search needs
 
 draw-requires : tie.Need-draw-requires
 draw-requires c κs = search needs
@@ -21,13 +24,15 @@ same-length-2 c = search needs
 returns : tie.Need-returns
 returns c =
     let d = c .before .before .before .before .before in
-    rw (← d .before .before .before .measure-of .ensures) (rw (d .draw .ensures .0) at (c .drawing-five .ensures), d .draw .ensures .1)
+    let p = d .before .before .before in
+    rw (← p .profile-of .ensures, ← p .before .measure-of .ensures) (rw (d .draw .ensures .0) at (c .drawing-five .ensures), d .draw .ensures .1)
 
 pub girthladder-text-as-spec : {M : Type 1} → statement M
 girthladder-text-as-spec =
     tie.close
     (tie.spec
     measure-of-requires
+    profile-of-requires
     draw-requires
     drawing-five-requires
     same-length

@@ -28,8 +28,8 @@ returns-2 c =
     stops-title (s .args .table .now) (s .args .titles .now) (Answer.Done 0) (s .args .nodes) (s .pre .0) (d .result) (d .ensures) (c .before .if1 .left)
     (t .result) (t .ensures) (c .if2 .taken)
 
-bad-utf8-requires : tie.Need-bad-utf8-requires
-bad-utf8-requires c κs =
+bad-bytes-requires : tie.Need-bad-bytes-requires
+bad-bytes-requires c κs =
     let s = c .before .before .before .before .before .before in
     let t = c .before .before .bad-title in (
       s .pre,
@@ -42,7 +42,7 @@ returns-3 c =
     let s = c .before .before .before .before .before .before .before .before in
     let d = c .before .before .before .before .before .bad-depth in
     let t = c .before .before .before .before .bad-title in
-    let u = c .before .bad-utf8 in
+    let u = c .before .bad-bytes in
     stops-utf8 (s .args .table .now) (s .args .titles .now) (Answer.Done 0) (s .args .nodes) (s .pre .0)
     (d .result) (d .ensures) (c .before .before .before .if1 .left) (t .result) (t .ensures) (c .before .before .if2 .left)
     (u .result) (u .ensures) (c .if3 .taken)
@@ -52,7 +52,7 @@ returns-4 c =
     let s = c .before .before .before .before .before .before .before .before in
     let d = c .before .before .before .before .before .bad-depth in
     let t = c .before .before .before .before .bad-title in
-    let u = c .before .bad-utf8 in
+    let u = c .before .bad-bytes in
     stops-none (s .args .table .now) (s .args .titles .now) (Answer.Done 0) (s .args .nodes) (s .pre .0)
     (d .result) (d .ensures) (c .before .before .before .if1 .left) (t .result) (t .ensures) (c .before .before .if2 .left)
     (u .result) (u .ensures) (c .if3 .left)
@@ -65,6 +65,6 @@ node-refusal-spec =
     bad-title-requires
     returns
     returns-2
-    bad-utf8-requires
+    bad-bytes-requires
     returns-3
     returns-4)

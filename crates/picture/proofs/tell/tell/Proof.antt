@@ -2,6 +2,7 @@
 use mathlib.Core.Path.{refl}
 use Rattle.rules.specs.Look.{Look}
 use Rattle.picture_sight.specs.Plan.{planSeen}
+use Rattle.rules.proofs.Kept.{every-byte}
 use Rattle.text.proofs.Counted.{len-most}
 use native.Mathlib.Omega.{arith}
 use Rattle.picture.specs.Answered.{lookIn, refused, accepted, no-node, wrong-depth, other}
@@ -54,7 +55,7 @@ returns-3 c =
     let d = c .before .before .before .before .before .before .before .before .before .before .bad-depth in
     let q = c .before .before .before .before .before .before .before .before .same .ensures .0 (c .before .before .before .before .before .before .before .if3 .taken) in
     accepted
-    (accept (lookIn (a .measure) (a .g)) (len-most (a .measure)) (s .pre .0 .0) (s .pre .1) (omega (arith, c .before .before .before .before .before .before .before .before .before .before .before .if1 .left)) (depths-right (lookIn (a .measure) (a .g)) (len-most (a .measure)) (s .pre .0 .0) (s .pre .1) (d .result) (d .ensures) (c .before .before .before .before .before .before .before .before .before .if2 .left)) q)
+    (accept (lookIn (a .measure) (a .g)) (len-most (a .measure)) (s .pre .0 .0) (s .pre .1) (omega (arith, c .before .before .before .before .before .before .before .before .before .before .before .if1 .left)) (depths-right (lookIn (a .measure) (a .g)) (len-most (a .measure)) (s .pre .0 .0) (s .pre .1) (d .result) (d .ensures) (c .before .before .before .before .before .before .before .before .before .if2 .left)) every-byte q)
     (c .before .before .before .before .deliver .ensures (planSeen (lookIn (a .measure) (a .g) .marks) (a .cells .now) (a .width) (a .height)) (told (lookIn (a .measure) (a .g)) (len-most (a .measure)) (s .pre .0 .0) (s .pre .1)))
 
 returns-4 : tie.Need-returns-4

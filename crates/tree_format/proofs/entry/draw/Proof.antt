@@ -4,11 +4,10 @@ use mathlib.Core.Bool.{true, false}
 use Prim.Native.Nat.{_*_}
 use native.Mathlib.Omega.{arith}
 use lib.ListN.{length}
-use Rattle.rules.specs.Look.{lookOf, lenOf}
+use Rattle.rules.specs.Look.{lookOf, lenOf, marksOf}
 use Rattle.rules.specs.Levels.{view}
 use Rattle.rules.specs.Measures.{area}
-use Rattle.rules.specs.Drawing.{boxes}
-use Rattle.rules.proofs.Lows.{boxes-low}
+use Rattle.rules.proofs.Lows.{low-in}
 use Rattle.rules.specs.Plan.{planOf}
 use Rattle.tree_view.proofs.Limits.{canvas-height-le}
 use Rattle.tree_view.proofs.Table.{small}
@@ -31,7 +30,7 @@ written-requires c κs =
     let q = c .before .before .before .before .before .before in
     let s = q .before .before .before .before .before .before in
     let a = s .args in
-    let look = lookOf (a .measure) in
+    let look = lookOf (a .measure) (a .profile) in
     let T = a .table .now in
     let B = a .titles .now in
     let ok = paint-said look T B (length (a .canvas .now)) {v = true} (q .paint .ensures .0) (d .done .ensures) (search needs) in
@@ -42,9 +41,9 @@ written-requires c κs =
     let h = canvas-height-le p (small w) in
     let r = q .paint .result in
     let e : r .width * r .height ≡ area (lenOf (a .measure)) (view p) = rw (l .width-is, l .height-is) in
-    let k = q .paint .kept .1 .1 .1 .0 in (
+    let k = q .paint .kept .1 .1 .1 .1 .0 in (
       (omega (arith, e, f .1, k), omega (arith, e, f .0), omega (arith, l .height-is, h)),
-      λ i b. rw (l .cells-are) (Picture.small (lenOf (a .measure)) boxes p (r .width) (r .height) (a .canvas .now) (l .width-is) (l .height-is) boxes-low i b),
+      λ i b. rw (l .cells-are) (Picture.small (lenOf (a .measure)) (marksOf (a .profile)) p (r .width) (r .height) (a .canvas .now) (l .width-is) (l .height-is) (low-in (a .profile)) i b),
     )
 
 same-length : tie.Need-same-length
@@ -59,14 +58,14 @@ returns c =
     let q = d .before .before .before in
     let s = q .before .before .before .before .before .before in
     let a = s .args in
-    let look = lookOf (a .measure) in
+    let look = lookOf (a .measure) (a .profile) in
     let T = a .table .now in
     let B = a .titles .now in
     let ok = paint-said look T B (length (a .canvas .now)) {v = true} (q .paint .ensures .0) (d .done .ensures) (c .before .before .before .before .before .if1 .taken) in
     let l = painted-left look T B (a .canvas .now) ok (q .paint .ensures .0) (q .paint .ensures .1) in
     let p = planOf T B in
     let r = q .paint .result in
-    let t = rw (l .cells-are, Picture.text-is (lenOf (a .measure)) boxes p (r .width) (r .height) (a .canvas .now) (l .width-is) (l .height-is)) at (c .before .before .written .ensures) in
+    let t = rw (l .cells-are, Picture.text-is (lenOf (a .measure)) (marksOf (a .profile)) p (r .width) (r .height) (a .canvas .now) (l .width-is) (l .height-is)) at (c .before .before .written .ensures) in
     let z = last-step look T B ok (l .cells-are) (rw (l .width-is, l .height-is, l .untitled-is) at t) in
     (z .answered, (z .canvas-left, z .out-left))
 
@@ -79,7 +78,7 @@ returns-2 c =
     let q = c .before .before .before .before in
     let s = q .before .before .before .before .before .before in
     let a = s .args in
-    let look = lookOf (a .measure) in
+    let look = lookOf (a .measure) (a .profile) in
     let T = a .table .now in
     let B = a .titles .now in
     let h = paint-said look T B (length (a .canvas .now)) {v = false} (q .paint .ensures .0) (d .done .ensures) (search needs) in

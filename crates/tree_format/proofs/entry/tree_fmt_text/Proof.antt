@@ -1,4 +1,4 @@
--- Bytes compute to document 01's look, so this is the general drawing.
+-- Bytes and boxes compute to document 01's look, so this is the general drawing.
 use borrow.Author.Needs.{needs}
 use Rattle.tree_format.proofs.entry.tree_fmt_text.Statement.{statement}
 use Rattle.tree_format.proofs.entry.tree_fmt_text.Tie as tie

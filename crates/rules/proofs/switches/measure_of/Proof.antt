@@ -2,10 +2,10 @@
 use borrow.Author.Needs.{needs}
 use borrow.Author.Tests.{eq-eqb, ne-eqb}
 use Prim.Native.Nat.{_%_}
 use Rattle.rules.specs.Base.{pick}
-use Rattle.girthladder.specs.Switches.{measureOf}
-use Rattle.girthladder.proofs.measure_of.Statement.{statement}
-use Rattle.girthladder.proofs.measure_of.Tie as tie
+use Rattle.rules.specs.Switches.{measureOf}
+use Rattle.rules.proofs.switches.measure_of.Statement.{statement}
+use Rattle.rules.proofs.switches.measure_of.Tie as tie
 
 returns : tie.Need-returns
 unfolding measureOf pick
