@@ -3,7 +3,8 @@
 Texts and the crate's graphs come from the Rust crate itself (../shared/oracle builds its code); refusals, sizes, the fenced graph, fitted
 boxes, the plan that is read off a picture and what is left in lent memory from a second reading of the documents (../shared/model/rules.py
 is document 01, and takes a request of document 02 as a keyword). Plain drawings come from both: the crate's drawing, each mark of which is
-put as a plain one, has to be what the second reading draws. Nothing here runs our code.
+put as a plain one, has to be what the second reading draws. With a stand-in the crate is asked for the plan with every empty title
+replaced. Nothing here runs our code.
 """
 import functools, itertools, os, shutil, struct, subprocess, sys
 
@@ -14,12 +15,12 @@ try: import rules
 except ImportError: rules = None
 
 TEXT, GRAPH, FENCED, READ, FILE = 0, 1, 2, 3, 4
-BYTES, FITTED, PLAIN = 0, 1, 2  # a look: the crate's, and what is added to it: (iv) a line's length is its code points, (xiii) plain marks
-ALL_LOOKS = tuple(range(4))
-LOOKS = {TEXT: ALL_LOOKS, GRAPH: (BYTES,), FENCED: (BYTES,), READ: ALL_LOOKS, FILE: (BYTES,)}  # that a kind of request takes
-NOT_PLAIN = 17  # (xiii) a title does not keep to the bytes of the plain profile
+# a look: the crate's, and what is added to it: (iv) a line's length is its code points, (xiii) plain marks, (i) a stand-in is given
+BYTES, FITTED, PLAIN, GIVEN = 0, 1, 2, 4
+LOOKS = {TEXT: tuple(range(8)), GRAPH: (BYTES, GIVEN), FENCED: (BYTES, GIVEN), READ: tuple(range(4)), FILE: (BYTES,)}  # that a kind of request takes
+STANDIN, NOT_PLAIN = 12, 17  # (i) a stand-in that may not stand in; (xiii) a title that does not keep to the bytes of the plain profile
 CELL, BYTE, PRIME = 0xA5A5A5A5, 0xA5, 4294967291
-MOST_LENT_CELLS, MOST_OUT, MOST_TITLES, MOST_ENTRIES, MOST_PAYLOAD = 262144, 524288, 262144, 1024, 524288
+MOST_LENT_CELLS, MOST_OUT, MOST_TITLES, MOST_ENTRIES, MOST_PAYLOAD, MOST_STANDIN = 262144, 524288, 262144, 1024, 524288, 4096
 
 
 def missing():
@@ -41,11 +42,22 @@ def command(program):
     return [program] if os.uname().machine == 'x86_64' else [os.path.join(ROOT, 'tests', 'program'), program]
 
 
-def check(table, titles, text=True, look=BYTES):
-    """The first refusal of 1 to 6, or (xiii) 17 after them, or None; (vii) a later depth of 0 starts another root."""
+def check(table, titles, text=True, look=BYTES, standin=None):
+    """The first refusal of 1 to 6, or (i) 12 after them, or (xiii) 17 after that, or None; (vii) a later depth of 0 starts another root."""
     refusal = rules.check(table, titles, text, roots=True)
-    if refusal or not look & PLAIN: return refusal
-    return next(((NOT_PLAIN, k) for k, (_, t) in enumerate(rules.plan_of(table, titles)) if not printed(t)), None)
+    if refusal: return refusal
+    if standin is not None and not stands_in(standin, look): return STANDIN, 0
+    if look & PLAIN: return next(((NOT_PLAIN, k) for k, (_, t) in enumerate(rules.plan_of(table, titles)) if not printed(t)), None)
+
+
+def stands_in(standin, look):
+    """(i) A text that may stand in for a missing title; (xiii) in plain marks it keeps to their bytes."""
+    return 1 <= len(standin) <= rules.TITLE and rules.valid(standin) and (not look & PLAIN or printed(standin))
+
+
+def replaced(plan, standin):
+    """(i) The plan with every empty title replaced, if there is a stand-in."""
+    return [(d, t or standin or b'') for d, t in plan]
 
 
 def printed(text):
@@ -98,18 +110,23 @@ def head(kind, lent1, lent2, lent3, size, look=BYTES): return struct.pack('<5I',
 
 
 class Request:
-    """One request. A plan's payload is made of its table and title bytes, a file's is the file."""
+    """One request. A plan's payload is made of its stand-in, if there is one, its table and its title bytes; a file's is the file."""
 
-    def __init__(self, kind, lent1, lent2, table=None, titles=b'', file=None, look=BYTES):
-        self.kind, self.lent1, self.lent2, self.file, self.look = kind, lent1, lent2, file, look
+    def __init__(self, kind, lent1, lent2, table=None, titles=b'', file=None, look=BYTES, standin=None):
+        self.kind, self.lent1, self.lent2, self.file, self.standin = kind, lent1, lent2, file, standin
+        self.look = look if standin is None else look | GIVEN
         self.broken = False
         if kind == FILE:
             got = rules.from_file(file)
             self.broken = got is None
             table, titles = got or ([], b'')
         self.table, self.titles = table, titles
-        self.refusal = None if self.broken else check(table, titles, kind in (TEXT, FILE), look)
-        self.plan = None if self.broken or self.refusal else rules.plan_of(table, titles)
+        self.refusal = None if self.broken else check(table, titles, kind in (TEXT, FILE), look, standin)
+        # the plan that is shown; the titles that are empty are counted in the one that is given
+        self.plan = self.untitled = None
+        if not self.broken and not self.refusal:
+            given = rules.plan_of(table, titles)
+            self.plan, self.untitled = replaced(given, standin), sum(not t for _, t in given)
         self.view = view(self.plan, look) if self.plan and kind in (TEXT, FILE) else None
         # what the crate is asked for: it has no fitted boxes, and needs no answer for a drawing that is refused
         if look == FITTED or self.view and self.view.width * self.view.height > min(lent1, rules.LIMIT): self.form = None
@@ -118,12 +135,13 @@ class Request:
     def sent(self):
         if self.kind == FILE: payload = self.file
         else: payload = struct.pack('<I', len(self.titles)) + self.titles + struct.pack('<%dI' % len(self.table), *self.table)
+        if self.standin is not None: payload = struct.pack('<I', len(self.standin)) + self.standin + payload
         return head(self.kind, self.lent1, self.lent2, 0, len(payload), self.look) + payload
 
     def within(self):
         """It keeps the bounds of `answers`."""
         return (self.look in LOOKS[self.kind] and self.lent1 <= MOST_LENT_CELLS and self.lent2 <= MOST_OUT and len(self.sent()) - 20 <= MOST_PAYLOAD
-                and (self.kind == FILE or len(self.titles) <= MOST_TITLES and len(self.table) <= MOST_ENTRIES))
+                and (self.kind == FILE or len(self.titles) <= MOST_TITLES and len(self.table) <= MOST_ENTRIES) and len(self.standin or b'') <= MOST_STANDIN)
 
     def line(self, crate):
         """The line that answers it. `crate` is what the crate gives for the plan, in self.form, if that is not None."""
@@ -143,14 +161,14 @@ class Request:
         width, height = self.view.width, self.view.height
         if width * height > rules.LIMIT: return rules.LARGE, 0, none, [], b''
         if width * height > self.lent1: return rules.CANVAS, width * height, none, [], b''
-        if self.look != BYTES:
+        if self.look & ~GIVEN:
             drawing = text(self.plan, self.look)
             assert not self.look & PLAIN or drawing == plainly(crate)
             crate = drawing
         cells = [ord(c) for row in crate.decode().split('\n')[:-1] for c in row.ljust(width)]
         assert len(cells) == width * height
         if len(crate) > self.lent2: return rules.ROOM, len(crate), none, cells, b''
-        return rules.DONE, len(crate), (width, height, sum(not t for _, t in self.plan)), cells, crate
+        return rules.DONE, len(crate), (width, height, self.untitled), cells, crate
 
 
 class Picture:
@@ -296,6 +314,10 @@ BORDERED = [[(d, t.encode()) for d, t in p] for p in (
 )]
 # bytes at the edges of what is printed, each as the end of a title: 1F, 7F and all that is above are not
 EDGES = [b'\x00', b'\t', b'\n', b'\x0b', b'\r', b'\x1f', b' ', b'!', b'}', b'~', b'\x7f', b'\x80', b'\xff', '\u0080'.encode(), 'é'.encode(), '─'.encode(), '😀'.encode()]
+# texts that stand in: a lone letter, a line break or a space alone, several lines, letters of more than one byte, marks, as long as may be;
+# and what may not: none, too long, not valid
+STANDINS = [b'?', b'(no title)', b'\n', b' ', b'  ', b'a\nb\n', b'\n\n.', '—'.encode(), 'χωρίς τίτλο'.encode(), '漢\n𝄞'.encode(), '╭─╮'.encode(), b'+---+\n|   |', b'"\\', b'x' * 1024, b'\n' * 1024]
+BAD_STANDINS = [b'', b'x' * 1025, b'\n' * 4096, b'\xff', b'ok\xc3', b'\xed\xa0\x80', b'\x80', b'\xc0\x80']
 LETTERS = list('ab c0 │─╭╮╰╯┴┬┌π') + ['é', '"', '\\', '\n', '\n', '\u3000', '漢', '𝄞', '\U0010ffff', '\r', '\t', '\x00', '\x7f', '-', '+', '|', '\u00a0', '\u2028']
 PRINTED = list('ab c01 +-|+-|+~"\\') + ['\n', '\n']
 SPREAD = list('αβλπσΩ09a ') + ['é', 'e\u0301', 'ö', 'o\u0308', '\u0301', '\n', '\n', '\u3000', '漢', '│', '╮', '─', '𝄞', '𐌰', '😀']

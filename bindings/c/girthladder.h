@@ -5,7 +5,8 @@
  *     depth          0 for the first node; each later depth is at most one more than the depth before it. A later 0 starts another root:
  *                    another plan on the same sheet, to the right of what stands before it
  *     title start    where the node's title begins in the title bytes
- *     title length   in bytes; a title is UTF-8, its lines are parted by '\n', and an empty title gives a node without a box
+ *     title length   in bytes; a title is UTF-8, its lines are parted by '\n', and an empty title gives a node without a box, unless a
+ *                    stand-in is given that is shown in its place
  *
  * At most 256 nodes, depth 31, 1,024 bytes in a title, and 1,048,576 canvas cells (width times height).
  *
@@ -53,6 +54,7 @@ enum girthladder_number {
     GIRTHLADDER_DEPTH = 4,  /* the depth rule is broken, or a depth is over 31: the first such node, counted from 0 */
     GIRTHLADDER_TITLE = 5,  /* a title reaches past the title bytes, or has over 1,024: the first such node */
     GIRTHLADDER_UTF8 = 6,   /* a title is not valid UTF-8: the first such node; reading: the picture is not, 0 */
+    GIRTHLADDER_STANDIN = 12, /* the stand-in is empty, has over 1,024 bytes or is not valid UTF-8, or is not plain in a plain drawing: 0 */
     GIRTHLADDER_NOT_PLAIN = 17, /* GIRTHLADDER_PLAIN, and a title has a byte that is not 20 to 7E or '\n', drawing only: the first such node */
     GIRTHLADDER_LARGE = 7,  /* over 1,048,576 cells, drawing and reading: 0 */
     GIRTHLADDER_CANVAS = 8, /* the canvas is too short, drawing and reading: cells needed */
@@ -97,6 +99,29 @@ void girthladder_text_as(const uint32_t *table, size_t table_length,
                          uint8_t *out, size_t out_length,
                          struct girthladder_answer *answer);
 
+/* The same with a stand-in: the drawing of the plan with every empty title replaced by it, so that a step without a title shows. `untitled`
+ * still counts the empty titles. `given` is 0 where there is no stand-in (lend null and 0 then), and anything else where there is one;
+ * one that is given is refused with STANDIN if it is empty or could not be a title. */
+void girthladder_text_with(const uint32_t *table, size_t table_length,
+                           const uint8_t *titles, size_t titles_length,
+                           uint32_t look,
+                           uint32_t given, const uint8_t *standin, size_t standin_length,
+                           uint32_t *canvas, size_t canvas_length,
+                           uint8_t *out, size_t out_length,
+                           struct girthladder_answer *answer);
+
+/* The same from C, where null is no stand-in. (An empty one that is not null is given, and refused.) */
+static inline void girthladder_text_standin(const uint32_t *table, size_t table_length,
+                                            const uint8_t *titles, size_t titles_length,
+                                            uint32_t look,
+                                            const uint8_t *standin, size_t standin_length,
+                                            uint32_t *canvas, size_t canvas_length,
+                                            uint8_t *out, size_t out_length,
+                                            struct girthladder_answer *answer) {
+    girthladder_text_with(table, table_length, titles, titles_length, look, standin != NULL, standin, standin ? standin_length : 0,
+                          canvas, canvas_length, out, out_length, answer);
+}
+
 /* Writes the plan as the graph of the crate polars-plan, titles as they are.
  *   DONE    out[0 .. second) holds the graph, with no '\n' at its end. What lies beyond is unchanged.
  *   else    out is unchanged.
@@ -112,6 +137,37 @@ void girthladder_fenced(const uint32_t *table, size_t table_length,
                         const uint8_t *titles, size_t titles_length,
                         uint8_t *out, size_t out_length,
                         struct girthladder_answer *answer);
+
+/* Both graphs with a stand-in, as the drawing has it: first with `given`, then from C, where null is none. A graph has no look, so no byte
+ * of it has to be plain. */
+void girthladder_dot_with(const uint32_t *table, size_t table_length,
+                          const uint8_t *titles, size_t titles_length,
+                          uint32_t given, const uint8_t *standin, size_t standin_length,
+                          uint8_t *out, size_t out_length,
+                          struct girthladder_answer *answer);
+void girthladder_fenced_with(const uint32_t *table, size_t table_length,
+                             const uint8_t *titles, size_t titles_length,
+                             uint32_t given, const uint8_t *standin, size_t standin_length,
+                             uint8_t *out, size_t out_length,
+                             struct girthladder_answer *answer);
+
+static inline void girthladder_dot_standin(const uint32_t *table, size_t table_length,
+                                           const uint8_t *titles, size_t titles_length,
+                                           const uint8_t *standin, size_t standin_length,
+                                           uint8_t *out, size_t out_length,
+                                           struct girthladder_answer *answer) {
+    girthladder_dot_with(table, table_length, titles, titles_length, standin != NULL, standin, standin ? standin_length : 0,
+                         out, out_length, answer);
+}
+
+static inline void girthladder_fenced_standin(const uint32_t *table, size_t table_length,
+                                              const uint8_t *titles, size_t titles_length,
+                                              const uint8_t *standin, size_t standin_length,
+                                              uint8_t *out, size_t out_length,
+                                              struct girthladder_answer *answer) {
+    girthladder_fenced_with(table, table_length, titles, titles_length, standin != NULL, standin, standin ? standin_length : 0,
+                            out, out_length, answer);
+}
 
 /* Reads a picture back. It is accepted exactly when some ordinary plan (no title empty, no line of a title ending in a space, within the
  * limits) is drawn as those very bytes by girthladder_text; that plan is answered, and there is no second one.

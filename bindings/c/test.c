@@ -160,6 +160,88 @@ static void refused(const uint32_t *table, size_t entries, const void *titles, s
     }
 }
 
+/* One call with this stand-in, which is lent read-only, or null: of the drawing in this look, or (look 4 and 5) of the graphs. */
+static struct girthladder_answer stood(uint32_t look, const struct plan *p, const void *standin, size_t bytes, struct lent *canvas, struct lent *out) {
+    struct lent text = read_only(standin, bytes), five = lend(sizeof(struct girthladder_answer));
+    struct girthladder_answer a, *answer = (struct girthladder_answer *)five.at;
+    const uint32_t *table = (const uint32_t *)p->table.at;
+    const uint8_t *shown = standin ? text.at : NULL;
+    size_t entries = p->table.size / 4, size = p->titles.size;
+    if (look == 4) girthladder_dot_standin(table, entries, p->titles.at, size, shown, bytes, out->at, out->size, answer);
+    else if (look == 5) girthladder_fenced_standin(table, entries, p->titles.at, size, shown, bytes, out->at, out->size, answer);
+    else girthladder_text_standin(table, entries, p->titles.at, size, look, shown, bytes, (uint32_t *)canvas->at, canvas->size / 4, out->at, out->size, answer);
+    CHECK(marked(&five, sizeof a));
+    a = *answer;
+    give_back(&five);
+    give_back(&text);
+    return a;
+}
+
+/* Two plans, the second with titles where the first has none: the first with a stand-in is shown as the second, in each look and graph,
+ * with every room up to what is needed; its untitled count stays. */
+static void same_shown(const struct plan *lost, const void *standin, size_t bytes, const struct plan *whole, uint64_t untitled) {
+    for (uint32_t look = 0; look < 6; look++) {
+        struct lent canvas = lend(4 * CELLS), out = lend(5 * CELLS), canvas2 = lend(4 * CELLS), out2 = lend(5 * CELLS);
+        struct girthladder_answer a = stood(look, whole, NULL, 0, &canvas, &out), b = stood(look, lost, standin, bytes, &canvas2, &out2);
+        CHECK(a.number == GIRTHLADDER_DONE && b.number == GIRTHLADDER_DONE && a.second == b.second && a.width == b.width && a.height == b.height);
+        CHECK(memcmp(canvas.at, canvas2.at, 4 * CELLS) == 0 && memcmp(out.at, out2.at, 5 * CELLS) == 0);
+        CHECK(a.untitled == 0 && b.untitled == (look < 4 ? untitled : 0));
+        for (size_t room = 0; room < b.second; room += 7) {
+            struct lent less = lend(room);
+            CHECK(is(stood(look, lost, standin, bytes, &canvas2, &less), GIRTHLADDER_ROOM, b.second) && marked(&less, 0));
+            give_back(&less);
+        }
+        give_back(&canvas);
+        give_back(&out);
+        give_back(&canvas2);
+        give_back(&out2);
+    }
+}
+
+/* A stand-in that is refused, in the looks from `from` on: no memory changes. */
+static void not_standing(const struct plan *p, const void *standin, size_t bytes, uint32_t from, uint32_t to) {
+    for (uint32_t look = from; look < to; look++) {
+        struct lent canvas = lend(4 * CELLS), out = lend(5 * CELLS);
+        CHECK(is(stood(look, p, standin, bytes, &canvas, &out), GIRTHLADDER_STANDIN, 0) && marked(&canvas, 0) && marked(&out, 0));
+        give_back(&canvas);
+        give_back(&out);
+    }
+}
+
+static void each_standin(void) {
+    static uint8_t long_text[1025];
+    const uint32_t table[] = {0, 0, 1, 1, 1, 0, 1, 1, 0}, titled[] = {0, 0, 1, 1, 1, 1, 1, 1, 1}, broken[] = {0, 0, 1, 1, 1, 1};
+    struct plan lost = plan(table, 9, "a", 1), whole = plan(titled, 9, "a?", 2), bad = plan(broken, 6, "a\xFF", 2), none = plan(NULL, 0, NULL, 0);
+    struct lent canvas = lend(4 * CELLS), out = lend(5 * CELLS), canvas2 = lend(4 * CELLS), out2 = lend(5 * CELLS);
+    memset(long_text, 'x', sizeof long_text);
+    same_shown(&lost, "?", 1, &whole, 2);
+    not_standing(&lost, "", 0, 0, 6);
+    not_standing(&lost, long_text, 1025, 0, 6);
+    not_standing(&lost, "\xC0\x80", 2, 0, 6);
+    not_standing(&lost, "\xC3\xA9", 2, 2, 4); /* an accent, in plain characters only */
+    not_standing(&whole, "", 0, 0, 6);         /* also where no title is missing */
+    /* null is none, whatever its length; 12 comes after 6, and after 3 */
+    struct girthladder_answer a = stood(0, &lost, NULL, 0, &canvas, &out), b = call(NULL, &lost, &canvas2, &out2, 0);
+    CHECK(memcmp(&a, &b, sizeof a) == 0 && a.untitled == 2 && memcmp(out.at, out2.at, 5 * CELLS) == 0 && memcmp(canvas.at, canvas2.at, 4 * CELLS) == 0);
+    girthladder_dot_standin((const uint32_t *)none.table.at, 0, NULL, 0, NULL, 99, NULL, 0, &a);
+    CHECK(is(a, GIRTHLADDER_ROOM, 14));
+    CHECK(is(stood(0, &bad, "", 0, &canvas, &out), GIRTHLADDER_UTF8, 1) && is(stood(0, &none, "", 0, &canvas, &out), GIRTHLADDER_NONE, 0));
+    CHECK(is(stood(4, &none, "", 0, &canvas, &out), GIRTHLADDER_STANDIN, 0));
+    /* any `given` but 0 is one; with 0 it is not looked at */
+    girthladder_text_with((const uint32_t *)lost.table.at, 9, lost.titles.at, 1, 0, 0x80000000, NULL, 0, NULL, 0, NULL, 0, &a);
+    CHECK(is(a, GIRTHLADDER_STANDIN, 0));
+    girthladder_fenced_with((const uint32_t *)lost.table.at, 9, lost.titles.at, 1, 0, long_text, 1025, NULL, 0, &a);
+    CHECK(a.number == GIRTHLADDER_ROOM);
+    give_back(&canvas);
+    give_back(&out);
+    give_back(&canvas2);
+    give_back(&out2);
+    forget(&lost);
+    forget(&whole);
+    forget(&bad);
+    forget(&none);
+}
+
 static void each_refusal(void) {
     static uint32_t many[3 * 257], deep[3 * 33], wide[3 * 256];
     static uint8_t long_title[1025];
@@ -411,6 +493,7 @@ int main(void) {
     each_look();
     each_plain_look();
     each_byte();
+    each_standin();
     each_refusal();
     each_reading();
     forget(&p);

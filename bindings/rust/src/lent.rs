@@ -5,32 +5,41 @@ use crate::{Look, Refusal};
 
 // girthladder.h. An empty slice's pointer is never read through.
 extern "C" {
-    fn girthladder_text_as(
+    fn girthladder_text_with(
         table: *const u32,
         table_length: usize,
         titles: *const u8,
         titles_length: usize,
         look: u32,
+        given: u32,
+        standin: *const u8,
+        standin_length: usize,
         canvas: *mut u32,
         canvas_length: usize,
         out: *mut u8,
         out_length: usize,
         answer: *mut [u64; 5],
     );
-    fn girthladder_dot(
+    fn girthladder_dot_with(
         table: *const u32,
         table_length: usize,
         titles: *const u8,
         titles_length: usize,
+        given: u32,
+        standin: *const u8,
+        standin_length: usize,
         out: *mut u8,
         out_length: usize,
         answer: *mut [u64; 5],
     );
-    fn girthladder_fenced(
+    fn girthladder_fenced_with(
         table: *const u32,
         table_length: usize,
         titles: *const u8,
         titles_length: usize,
+        given: u32,
+        standin: *const u8,
+        standin_length: usize,
         out: *mut u8,
         out_length: usize,
         answer: *mut [u64; 5],
@@ -71,15 +80,30 @@ pub fn text(table: &[u32], titles: &[u8], canvas: &mut [u32], out: &mut [u8]) ->
 
 /// The same in this look.
 pub fn text_as(table: &[u32], titles: &[u8], look: Look, canvas: &mut [u32], out: &mut [u8]) -> Result<Drawing, Refusal> {
-    let mut five = [0; 5];
-    // SAFETY: four slices that do not overlap, lent for the call by pointer and length, and five numbers.
+    text_with(table, titles, look, None, canvas, out)
+}
+
+/// The same with a stand-in, if there is one: every empty title is shown as it. `untitled` still counts the empty titles.
+pub fn text_with(
+    table: &[u32],
+    titles: &[u8],
+    look: Look,
+    standin: Option<&[u8]>,
+    canvas: &mut [u32],
+    out: &mut [u8],
+) -> Result<Drawing, Refusal> {
+    let (mut five, shown) = ([0; 5], standin.unwrap_or(&[]));
+    // SAFETY: five slices, of which those that are written to overlap none, lent for the call by pointer and length, and five numbers.
     unsafe {
-        girthladder_text_as(
+        girthladder_text_with(
             table.as_ptr(),
             table.len(),
             titles.as_ptr(),
             titles.len(),
             look.switches(),
+            standin.is_some().into(),
+            shown.as_ptr(),
+            shown.len(),
             canvas.as_mut_ptr(),
             canvas.len(),
             out.as_mut_ptr(),
@@ -87,23 +111,51 @@ pub fn text_as(table: &[u32], titles: &[u8], look: Look, canvas: &mut [u32], out
             &mut five,
         )
     };
-    drawing(five, table, titles)
+    let bytes = done(five, table, titles, shown)?;
+    Ok(Drawing { bytes, width: five[2] as usize, height: five[3] as usize, untitled: five[4] as usize })
 }
 
 /// Writes the crate's graph to the front of `out` and answers its bytes; a refusal leaves `out` unchanged.
 pub fn dot(table: &[u32], titles: &[u8], out: &mut [u8]) -> Result<usize, Refusal> {
-    let mut five = [0; 5];
-    // SAFETY: three slices that do not overlap, lent for the call by pointer and length, and five numbers.
-    unsafe { girthladder_dot(table.as_ptr(), table.len(), titles.as_ptr(), titles.len(), out.as_mut_ptr(), out.len(), &mut five) };
-    done(five, table, titles)
+    dot_with(table, titles, None, out)
+}
+
+/// The same with a stand-in, if there is one: every empty title is shown as it.
+pub fn dot_with(table: &[u32], titles: &[u8], standin: Option<&[u8]>, out: &mut [u8]) -> Result<usize, Refusal> {
+    graph(girthladder_dot_with, table, titles, standin, out)
 }
 
 /// Writes the fenced graph to the front of `out` and answers its bytes; a refusal leaves `out` unchanged.
 pub fn fenced(table: &[u32], titles: &[u8], out: &mut [u8]) -> Result<usize, Refusal> {
-    let mut five = [0; 5];
-    // SAFETY: three slices that do not overlap, lent for the call by pointer and length, and five numbers.
-    unsafe { girthladder_fenced(table.as_ptr(), table.len(), titles.as_ptr(), titles.len(), out.as_mut_ptr(), out.len(), &mut five) };
-    done(five, table, titles)
+    fenced_with(table, titles, None, out)
+}
+
+/// The same with a stand-in, if there is one: every empty title is shown as it.
+pub fn fenced_with(table: &[u32], titles: &[u8], standin: Option<&[u8]>, out: &mut [u8]) -> Result<usize, Refusal> {
+    graph(girthladder_fenced_with, table, titles, standin, out)
+}
+
+type Graph = unsafe extern "C" fn(*const u32, usize, *const u8, usize, u32, *const u8, usize, *mut u8, usize, *mut [u64; 5]);
+
+// One of the two graphs.
+fn graph(write: Graph, table: &[u32], titles: &[u8], standin: Option<&[u8]>, out: &mut [u8]) -> Result<usize, Refusal> {
+    let (mut five, shown) = ([0; 5], standin.unwrap_or(&[]));
+    // SAFETY: four slices, of which the one that is written to overlaps none, lent for the call by pointer and length, and five numbers.
+    unsafe {
+        write(
+            table.as_ptr(),
+            table.len(),
+            titles.as_ptr(),
+            titles.len(),
+            standin.is_some().into(),
+            shown.as_ptr(),
+            shown.len(),
+            out.as_mut_ptr(),
+            out.len(),
+            &mut five,
+        )
+    };
+    done(five, table, titles, shown)
 }
 
 /// Reads a picture back: the nodes of its plan to the front of `table`, three numbers each, and the titles one after another to the front
@@ -134,12 +186,6 @@ pub fn read_as(picture: &[u8], look: Look, canvas: &mut [u32], table: &mut [u32]
     nodes(five)
 }
 
-// The drawing, or the refusal.
-fn drawing(five: [u64; 5], table: &[u32], titles: &[u8]) -> Result<Drawing, Refusal> {
-    let bytes = done(five, table, titles)?;
-    Ok(Drawing { bytes, width: five[2] as usize, height: five[3] as usize, untitled: five[4] as usize })
-}
-
 // The nodes that were read, or the refusal.
 fn nodes(five: [u64; 5]) -> Result<usize, Refusal> {
     match five[0] {
@@ -149,9 +195,9 @@ fn nodes(five: [u64; 5]) -> Result<usize, Refusal> {
 }
 
 // The bytes written, or the refusal.
-fn done(five: [u64; 5], table: &[u32], titles: &[u8]) -> Result<usize, Refusal> {
+fn done(five: [u64; 5], table: &[u32], titles: &[u8], standin: &[u8]) -> Result<usize, Refusal> {
     match five[0] {
         0 => Ok(five[1] as usize),
-        number => Err(Refusal::of(number, five[1], table, titles)),
+        number => Err(Refusal::of(number, five[1], table, titles, standin)),
     }
 }

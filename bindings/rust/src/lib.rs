@@ -21,6 +21,16 @@
 //! let plan: Plan = [(0, "READ rain"), (1, "gauge")].into_iter().collect();
 //! assert!(girthladder::draw_as(&plan, Look::new().plain()).unwrap().contains(" 0 |  | READ rain |\n"));
 //! ```
+//!
+//! A node with an empty title gets no box, as in the crate, and what hangs beneath it is drawn under its neighbour. [`draw_with`],
+//! [`dot_with`] and [`fenced_with`] take a stand-in that is shown in place of an empty title:
+//!
+//! ```
+//! use girthladder::{Look, Plan};
+//! let plan: Plan = [(0, "JOIN"), (1, "gauge"), (1, ""), (2, "weir")].into_iter().collect();
+//! let text = girthladder::draw_with(&plan, Look::new(), Some("(no title)")).unwrap();
+//! assert!(text.contains("│ (no title) │"));
+//! ```
 
 mod look;
 mod plan;
@@ -48,17 +58,33 @@ pub fn draw(plan: &Plan) -> Result<String, Refusal> {
 
 /// The drawing in this look.
 pub fn draw_as(plan: &Plan, look: Look) -> Result<String, Refusal> {
-    drawn(plan, |table, titles, canvas, out| lent::text_as(table, titles, look, canvas, out))
+    draw_with(plan, look, None)
+}
+
+/// The drawing in this look, with a stand-in if there is one: that of the plan with every empty title replaced by it. An empty stand-in is
+/// refused; `None` is none.
+pub fn draw_with(plan: &Plan, look: Look, standin: Option<&str>) -> Result<String, Refusal> {
+    drawn(plan, |table, titles, canvas, out| lent::text_with(table, titles, look, standin.map(str::as_bytes), canvas, out))
 }
 
 /// The graph as the crate polars-plan writes it, titles as they are.
 pub fn dot(plan: &Plan) -> Result<String, Refusal> {
-    grown(plan, lent::dot)
+    dot_with(plan, None)
+}
+
+/// The same with a stand-in, if there is one, for every empty title.
+pub fn dot_with(plan: &Plan, standin: Option<&str>) -> Result<String, Refusal> {
+    grown(plan, |table, titles, out| lent::dot_with(table, titles, standin.map(str::as_bytes), out))
 }
 
 /// The graph for Graphviz: quotes, backslashes and line breaks of titles escaped, no name twice.
 pub fn fenced(plan: &Plan) -> Result<String, Refusal> {
-    grown(plan, lent::fenced)
+    fenced_with(plan, None)
+}
+
+/// The same with a stand-in, if there is one, for every empty title.
+pub fn fenced_with(plan: &Plan, standin: Option<&str>) -> Result<String, Refusal> {
+    grown(plan, |table, titles, out| lent::fenced_with(table, titles, standin.map(str::as_bytes), out))
 }
 
 /// The one ordinary plan (no title empty, no line of a title ending in a space, within the limits) that is drawn as these very bytes.
@@ -102,7 +128,7 @@ fn found(picture: &[u8], read: impl Fn(&[u8], &mut [u32], &mut [u32], &mut [u8])
 }
 
 // A graph in as many bytes as it needs.
-fn grown(plan: &Plan, graph: fn(&[u32], &[u8], &mut [u8]) -> Result<usize, Refusal>) -> Result<String, Refusal> {
+fn grown(plan: &Plan, graph: impl Fn(&[u32], &[u8], &mut [u8]) -> Result<usize, Refusal>) -> Result<String, Refusal> {
     let (table, titles) = plan.parts();
     let bytes = match graph(table, titles, &mut []) {
         Err(Refusal::Room { needed }) => needed,

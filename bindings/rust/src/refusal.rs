@@ -18,6 +18,9 @@ pub enum Refusal {
     Title { node: usize, start: u32, length: u32, titles: usize },
     /// 6: this node's title is not valid UTF-8.
     Utf8 { node: usize },
+    /// 12: the stand-in, of `length` bytes, is empty, has over 1,024 bytes, is not valid UTF-8 or, in the plain look, has a byte that plain
+    /// characters do not include.
+    Standin { length: usize },
     /// 17: this node's title has a byte that plain characters do not include: not 20 to 7E, and no line break; drawing in the plain look only.
     Plain { node: usize },
     /// 7: over 1,048,576 cells; drawing and reading.
@@ -44,6 +47,7 @@ impl Refusal {
             Refusal::Depth { .. } => 4,
             Refusal::Title { .. } => 5,
             Refusal::Utf8 { .. } => 6,
+            Refusal::Standin { .. } => 12,
             Refusal::Plain { .. } => 17,
             Refusal::Large => 7,
             Refusal::Canvas { .. } => 8,
@@ -67,8 +71,8 @@ impl Refusal {
         }
     }
 
-    // From the library's first two numbers, with the details that the table has.
-    pub(crate) fn of(number: u64, second: u64, table: &[u32], titles: &[u8]) -> Refusal {
+    // From the library's first two numbers, with the details that the table and the stand-in have.
+    pub(crate) fn of(number: u64, second: u64, table: &[u32], titles: &[u8], standin: &[u8]) -> Refusal {
         let node = second as usize;
         let entry = |k: usize, part: usize| table[3 * k + part];
         match number {
@@ -81,8 +85,9 @@ impl Refusal {
             7 => Refusal::Large,
             8 => Refusal::Canvas { needed: node },
             9 => Refusal::Room { needed: node },
+            12 => Refusal::Standin { length: standin.len() },
             17 => Refusal::Plain { node },
-            _ => unreachable!("the library answers 0 to 9 or 17"),
+            _ => unreachable!("the library answers 0 to 9, 12 or 17"),
         }
     }
 }
@@ -105,6 +110,11 @@ impl fmt::Display for Refusal {
                 write!(f, "the title of node {node}, {length} bytes from {start} on, lies outside the {titles} title bytes")
             },
             Refusal::Utf8 { node } => write!(f, "the title of node {node} is not valid UTF-8"),
+            Refusal::Standin { length: 0 } => write!(f, "the stand-in is empty, so it shows nothing where a title is missing"),
+            Refusal::Standin { length } if length > crate::MOST_TITLE => {
+                write!(f, "the stand-in has {length} bytes, and at most {} can be shown", crate::MOST_TITLE)
+            },
+            Refusal::Standin { .. } => write!(f, "the stand-in is not valid UTF-8, or has a byte that is not printed in plain characters"),
             Refusal::Plain { node } => write!(f, "the title of node {node} has a byte that is not printed in plain characters: only 20 to 7E and line breaks are"),
             Refusal::Large => write!(f, "the drawing has more than {} cells", crate::MOST_CELLS),
             Refusal::Canvas { needed } => write!(f, "the canvas is too short: the drawing needs {needed} cells"),

@@ -1,5 +1,5 @@
 //! Document 01's example and every refusal, through `draw`, `dot`, `fenced`, `read` and on lent memory with marked numbers around each buffer.
-use girthladder::{dot, draw, draw_as, fenced, lent, read, read_as, Look, Plan, Refusal};
+use girthladder::{dot, dot_with, draw, draw_as, draw_with, fenced, fenced_with, lent, read, read_as, Look, Plan, Refusal};
 
 const PICTURE: &str = "        0      1
    ┌──────────────
@@ -222,6 +222,53 @@ fn plain_characters() {
     assert_eq!(lent::text_as(&TABLE, b"a\x7Fc", plain, &mut canvas, &mut out), Err(Refusal::Plain { node: 1 }));
     assert_eq!(lent::text_as(&TABLE, b"\x7Fb\xFF", plain, &mut canvas, &mut out), Err(Refusal::Utf8 { node: 2 }));
     assert!(unchanged(&canvas, &out));
+}
+
+#[test]
+fn a_stand_in_for_a_missing_title() {
+    let looks = [Look::new(), Look::new().fitted(), Look::new().plain(), Look::new().fitted().plain()];
+    let lost = plan(&[(0, "a"), (1, "b"), (1, ""), (2, "c"), (0, "")]);
+    for standin in ["?", "\n", " ", "no\ntitle", "\"\\+-|", &"x".repeat(1024)] {
+        let whole = plan(&[(0, "a"), (1, "b"), (1, standin), (2, "c"), (0, standin)]);
+        for look in looks {
+            let text = draw_with(&lost, look, Some(standin)).unwrap();
+            assert_eq!(text, draw_as(&whole, look).unwrap());
+            // a plan that is ordinary with the stand-in in it is read back as that plan
+            assert_eq!(read_as(&text, look), if standin == " " { Err(Refusal::Undrawn) } else { Ok(whole.clone()) });
+        }
+        assert_eq!(dot_with(&lost, Some(standin)), dot(&whole));
+        assert_eq!(fenced_with(&lost, Some(standin)), fenced(&whole));
+        // where no title is missing it makes no difference
+        assert_eq!(draw_with(&whole, looks[1], Some("other")), draw_as(&whole, looks[1]));
+    }
+    assert_eq!((draw_with(&lost, looks[0], None), dot_with(&lost, None), fenced_with(&lost, None)), (draw(&lost), dot(&lost), fenced(&lost)));
+    let long = "é".repeat(513);
+    for (standin, words) in [
+        ("", "the stand-in is empty, so it shows nothing where a title is missing"),
+        (long.as_str(), "the stand-in has 1026 bytes, and at most 1024 can be shown"),
+    ] {
+        let refusal = Refusal::Standin { length: standin.len() };
+        assert_eq!((refusal.number(), refusal.to_string()), (12, words.into()));
+        for p in [&lost, &example()] {
+            assert_eq!((dot_with(p, Some(standin)), fenced_with(p, Some(standin))), (Err(refusal), Err(refusal)));
+            for look in looks {
+                assert_eq!(draw_with(p, look, Some(standin)), Err(refusal));
+            }
+        }
+    }
+    // plain characters ask for a plain stand-in, and graphs do not; a broken title comes first, and no memory is touched
+    let refusal = draw_with(&lost, looks[2], Some("—")).unwrap_err();
+    assert_eq!(refusal, Refusal::Standin { length: 3 });
+    assert_eq!(refusal.to_string(), "the stand-in is not valid UTF-8, or has a byte that is not printed in plain characters");
+    assert!(draw_with(&lost, looks[1], Some("—")).is_ok() && dot_with(&lost, Some("—")).is_ok());
+    let (mut canvas, mut out) = ([0xA5A5A5A5; 300], [0xA5; 400]);
+    assert_eq!(lent::text_with(&TABLE, b"abc", looks[0], Some(b"\xFF"), &mut canvas, &mut out), Err(Refusal::Standin { length: 1 }));
+    assert_eq!(lent::text_with(&TABLE, b"ab\xFF", looks[0], Some(b""), &mut canvas, &mut out), Err(Refusal::Utf8 { node: 2 }));
+    assert_eq!(lent::dot_with(&TABLE, b"abc", Some(b"\xC3"), &mut out), Err(Refusal::Standin { length: 1 }));
+    assert!(unchanged(&canvas, &out));
+    let drawing = lent::text_with(&[0, 0, 1, 1, 0, 0], b"a", looks[0], Some(b"?"), &mut canvas, &mut out).unwrap();
+    assert_eq!((drawing.width, drawing.height, drawing.untitled), (11, 12, 1));
+    assert!(unchanged(&canvas[132..], &out[drawing.bytes..]));
 }
 
 #[test]

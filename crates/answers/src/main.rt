@@ -15,22 +15,36 @@ fn bad() -> bool {
     false
 }
 
-// The kinds of request, and the looks that each takes: 1, fitted boxes, and 2, plain characters, for a drawing and for a picture.
+// The kinds of request, and the looks that each takes: 1, fitted boxes, and 2, plain characters, for a drawing and for a picture; 4, a
+// stand-in, for a drawing and for a graph.
 fn known(kind: u32, look: u32) -> bool {
     if kind == 0 {
-        return look < 4;
+        return look < 8;
     }
     if kind == 3 {
         return look < 4;
     }
-    if 0 < look {
-        return false;
+    if kind == 4 {
+        return look == 0;
     }
-    kind < 5
+    if kind < 3 {
+        return look % 4 == 0 && look < 8;
+    }
+    false
 }
 
-// The answer of a graph.
-fn graph(kind: u32, table: &[u32], titles: &[u8], out: &mut [u8]) -> Answer {
+// The answer of a graph, with a stand-in if the look says so.
+fn graph<'a>(
+    kind: u32,
+    look: u32,
+    table: &[u32],
+    titles: &'a [u8],
+    standin: &'a [u8],
+    out: &mut [u8],
+) -> Answer {
+    if 3 < look {
+        return tree_format::dot(table, titles, true, standin, kind == 2, out);
+    }
     if kind == 1 {
         return tree_format::tree_fmt_dot(table, titles, out);
     }
@@ -38,36 +52,46 @@ fn graph(kind: u32, table: &[u32], titles: &[u8], out: &mut [u8]) -> Answer {
 }
 
 // The answer of a drawing in this look.
-fn drawing(look: u32, table: &[u32], titles: &[u8], cells: &mut [u32], out: &mut [u8]) -> Drawing {
+fn drawing<'a>(
+    look: u32,
+    table: &[u32],
+    titles: &'a [u8],
+    standin: &'a [u8],
+    cells: &mut [u32],
+    out: &mut [u8],
+) -> Drawing {
     if look == 0 {
         return tree_format::tree_fmt_text(table, titles, cells, out);
     }
     let measure = rules::measure_of(look);
     let profile = rules::profile_of(look);
-    tree_format::draw(table, titles, measure, profile, cells, out)
+    let given = 3 < look;
+    tree_format::draw(table, titles, given, standin, measure, profile, cells, out)
 }
 
 // Draws a plan or its graph, and prints the answer.
-fn draw_plan(
+fn draw_plan<'a>(
     kind: u32,
     look: u32,
     table: &[u32],
-    titles: &[u8],
+    titles: &'a [u8],
+    standin: &'a [u8],
     cells: &mut [u32],
     out: &mut [u8],
 ) {
     if kind == 0 {
-        line::print_drawing(drawing(look, table, titles, cells, out));
+        line::print_drawing(drawing(look, table, titles, standin, cells, out));
         return;
     }
-    line::print_graph(graph(kind, table, titles, out));
+    line::print_graph(graph(kind, look, table, titles, standin, out));
 }
 
 // The titles and the table of a payload: it is long enough, and has whole entries, as many as fit.
-fn plan_request(
+fn plan_request<'a>(
     kind: u32,
     look: u32,
-    payload: &[u8],
+    standin: &'a [u8],
+    payload: &'a [u8],
     table: &mut [u32],
     cells: &mut [u32],
     out: &mut [u8],
@@ -93,8 +117,48 @@ fn plan_request(
         return false;
     }
     words(payload, end, &mut table[..n]);
-    draw_plan(kind, look, &table[..n], &payload[4..end], cells, out);
+    draw_plan(
+        kind,
+        look,
+        &table[..n],
+        &payload[4..end],
+        standin,
+        cells,
+        out,
+    );
     true
+}
+
+// The stand-in that a payload begins with, and the plan after it.
+fn standin_request(
+    kind: u32,
+    look: u32,
+    payload: &[u8],
+    table: &mut [u32],
+    cells: &mut [u32],
+    out: &mut [u8],
+) -> bool {
+    let size = payload.len();
+    if size < 4 {
+        return false;
+    }
+    let bytes = wide(word(payload, 0));
+    if 4096 < bytes {
+        return false;
+    }
+    if size - 4 < bytes {
+        return false;
+    }
+    let end = bytes + 4;
+    plan_request(
+        kind,
+        look,
+        &payload[4..end],
+        &payload[end..],
+        table,
+        cells,
+        out,
+    )
 }
 
 // Answers with the lent memory as it is.
@@ -110,7 +174,10 @@ fn draw(
         line::print_drawing(plan_file::draw_file(payload, cells, out));
         return true;
     }
-    plan_request(kind, look, payload, table, cells, out)
+    if 3 < look {
+        return standin_request(kind, look, payload, table, cells, out);
+    }
+    plan_request(kind, look, &payload[..0], payload, table, cells, out)
 }
 
 // Makes the lent memory fresh, answers, and sums the memory up.

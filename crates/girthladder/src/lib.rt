@@ -2,9 +2,10 @@
 ghost use mathlib.Core.Path.{_≡_};
 ghost use lib.ListN.{length};
 ghost use Rattle.rules.specs.Look.{base};
+ghost use Rattle.rules.specs.Standin.{none, standinOf};
 ghost use Rattle.rules.specs.Graph.{bare, fenced};
 ghost use Rattle.rules.specs.Answers.{drawing, canvasAfter, outAfter, graphAnswer, graphAfter};
-ghost use Rattle.rules.specs.Switches.{lookIn};
+ghost use Rattle.rules.specs.Switches.{givenOf, lookIn};
 ghost use Rattle.girthladder.specs.Five.{drawingFive, graphFive, readingFive, ReadFive};
 use rules::Answer;
 use rules::Drawing;
@@ -67,9 +68,9 @@ pub extern "C" fn girthladder_text(
     out: &mut [u8],
     answer: &mut [u64; 5],
 )
-    ensures answered { λ _. ⌜ now (answer .exit) ≡ drawingFive (drawing base (now (table .entry)) (now (titles .entry)) (length (now (canvas .entry))) (length (now (out .entry)))) ⌝ }
-    ensures canvas_left { λ _. ⌜ now (canvas .exit) ≡ canvasAfter base (now (table .entry)) (now (titles .entry)) (length (now (out .entry))) (now (canvas .entry)) ⌝ }
-    ensures out_left { λ _. ⌜ now (out .exit) ≡ outAfter base (now (table .entry)) (now (titles .entry)) (length (now (canvas .entry))) (now (out .entry)) ⌝ }
+    ensures answered { λ _. ⌜ now (answer .exit) ≡ drawingFive (drawing base none (now (table .entry)) (now (titles .entry)) (length (now (canvas .entry))) (length (now (out .entry)))) ⌝ }
+    ensures canvas_left { λ _. ⌜ now (canvas .exit) ≡ canvasAfter base none (now (table .entry)) (now (titles .entry)) (length (now (out .entry))) (now (canvas .entry)) ⌝ }
+    ensures out_left { λ _. ⌜ now (out .exit) ≡ outAfter base none (now (table .entry)) (now (titles .entry)) (length (now (canvas .entry))) (now (out .entry)) ⌝ }
 {
     let d = tree_format::tree_fmt_text(table, titles, canvas, out);
     *answer = drawing_five(d);
@@ -85,13 +86,45 @@ pub extern "C" fn girthladder_text_as(
     out: &mut [u8],
     answer: &mut [u64; 5],
 )
-    ensures answered { λ _. ⌜ now (answer .exit) ≡ drawingFive (drawing (lookIn look) (now (table .entry)) (now (titles .entry)) (length (now (canvas .entry))) (length (now (out .entry)))) ⌝ }
-    ensures canvas_left { λ _. ⌜ now (canvas .exit) ≡ canvasAfter (lookIn look) (now (table .entry)) (now (titles .entry)) (length (now (out .entry))) (now (canvas .entry)) ⌝ }
-    ensures out_left { λ _. ⌜ now (out .exit) ≡ outAfter (lookIn look) (now (table .entry)) (now (titles .entry)) (length (now (canvas .entry))) (now (out .entry)) ⌝ }
+    ensures answered { λ _. ⌜ now (answer .exit) ≡ drawingFive (drawing (lookIn look) none (now (table .entry)) (now (titles .entry)) (length (now (canvas .entry))) (length (now (out .entry)))) ⌝ }
+    ensures canvas_left { λ _. ⌜ now (canvas .exit) ≡ canvasAfter (lookIn look) none (now (table .entry)) (now (titles .entry)) (length (now (out .entry))) (now (canvas .entry)) ⌝ }
+    ensures out_left { λ _. ⌜ now (out .exit) ≡ outAfter (lookIn look) none (now (table .entry)) (now (titles .entry)) (length (now (canvas .entry))) (now (out .entry)) ⌝ }
 {
     let measure = rules::measure_of(look);
     let profile = rules::profile_of(look);
-    let d = tree_format::draw(table, titles, measure, profile, canvas, out);
+    let d = tree_format::draw(table, titles, false, titles, measure, profile, canvas, out);
+    *answer = drawing_five(d);
+}
+
+// The same with a stand-in for empty titles, if one is given.
+#[no_mangle]
+pub extern "C" fn girthladder_text_with<'a>(
+    table: &[u32],
+    titles: &'a [u8],
+    look: u32,
+    given: u32,
+    standin: &'a [u8],
+    canvas: &mut [u32],
+    out: &mut [u8],
+    answer: &mut [u64; 5],
+)
+    ensures answered { λ _. ⌜ now (answer .exit) ≡ drawingFive (drawing (lookIn look) (standinOf (givenOf given) (now (standin .entry))) (now (table .entry)) (now (titles .entry)) (length (now (canvas .entry))) (length (now (out .entry)))) ⌝ }
+    ensures canvas_left { λ _. ⌜ now (canvas .exit) ≡ canvasAfter (lookIn look) (standinOf (givenOf given) (now (standin .entry))) (now (table .entry)) (now (titles .entry)) (length (now (out .entry))) (now (canvas .entry)) ⌝ }
+    ensures out_left { λ _. ⌜ now (out .exit) ≡ outAfter (lookIn look) (standinOf (givenOf given) (now (standin .entry))) (now (table .entry)) (now (titles .entry)) (length (now (canvas .entry))) (now (out .entry)) ⌝ }
+{
+    let measure = rules::measure_of(look);
+    let profile = rules::profile_of(look);
+    let stands = rules::given_of(given);
+    let d = tree_format::draw(
+        table,
+        titles,
+        stands,
+        standin,
+        measure,
+        profile,
+        canvas,
+        out,
+    );
     *answer = drawing_five(d);
 }
 
@@ -103,10 +136,28 @@ pub extern "C" fn girthladder_dot(
     out: &mut [u8],
     answer: &mut [u64; 5],
 )
-    ensures answered { λ _. ⌜ now (answer .exit) ≡ graphFive (graphAnswer bare (now (table .entry)) (now (titles .entry)) (length (now (out .entry)))) ⌝ }
-    ensures out_left { λ _. ⌜ now (out .exit) ≡ graphAfter bare (now (table .entry)) (now (titles .entry)) (now (out .entry)) ⌝ }
+    ensures answered { λ _. ⌜ now (answer .exit) ≡ graphFive (graphAnswer bare none (now (table .entry)) (now (titles .entry)) (length (now (out .entry)))) ⌝ }
+    ensures out_left { λ _. ⌜ now (out .exit) ≡ graphAfter bare none (now (table .entry)) (now (titles .entry)) (now (out .entry)) ⌝ }
 {
     let a = tree_format::tree_fmt_dot(table, titles, out);
+    *answer = graph_five(a);
+}
+
+// The same with a stand-in for empty titles, if one is given.
+#[no_mangle]
+pub extern "C" fn girthladder_dot_with<'a>(
+    table: &[u32],
+    titles: &'a [u8],
+    given: u32,
+    standin: &'a [u8],
+    out: &mut [u8],
+    answer: &mut [u64; 5],
+)
+    ensures answered { λ _. ⌜ now (answer .exit) ≡ graphFive (graphAnswer bare (standinOf (givenOf given) (now (standin .entry))) (now (table .entry)) (now (titles .entry)) (length (now (out .entry)))) ⌝ }
+    ensures out_left { λ _. ⌜ now (out .exit) ≡ graphAfter bare (standinOf (givenOf given) (now (standin .entry))) (now (table .entry)) (now (titles .entry)) (now (out .entry)) ⌝ }
+{
+    let stands = rules::given_of(given);
+    let a = tree_format::dot(table, titles, stands, standin, false, out);
     *answer = graph_five(a);
 }
 
@@ -118,10 +169,28 @@ pub extern "C" fn girthladder_fenced(
     out: &mut [u8],
     answer: &mut [u64; 5],
 )
-    ensures answered { λ _. ⌜ now (answer .exit) ≡ graphFive (graphAnswer fenced (now (table .entry)) (now (titles .entry)) (length (now (out .entry)))) ⌝ }
-    ensures out_left { λ _. ⌜ now (out .exit) ≡ graphAfter fenced (now (table .entry)) (now (titles .entry)) (now (out .entry)) ⌝ }
+    ensures answered { λ _. ⌜ now (answer .exit) ≡ graphFive (graphAnswer fenced none (now (table .entry)) (now (titles .entry)) (length (now (out .entry)))) ⌝ }
+    ensures out_left { λ _. ⌜ now (out .exit) ≡ graphAfter fenced none (now (table .entry)) (now (titles .entry)) (now (out .entry)) ⌝ }
 {
     let a = tree_format::tree_fmt_fenced(table, titles, out);
+    *answer = graph_five(a);
+}
+
+// The same with a stand-in for empty titles, if one is given.
+#[no_mangle]
+pub extern "C" fn girthladder_fenced_with<'a>(
+    table: &[u32],
+    titles: &'a [u8],
+    given: u32,
+    standin: &'a [u8],
+    out: &mut [u8],
+    answer: &mut [u64; 5],
+)
+    ensures answered { λ _. ⌜ now (answer .exit) ≡ graphFive (graphAnswer fenced (standinOf (givenOf given) (now (standin .entry))) (now (table .entry)) (now (titles .entry)) (length (now (out .entry)))) ⌝ }
+    ensures out_left { λ _. ⌜ now (out .exit) ≡ graphAfter fenced (standinOf (givenOf given) (now (standin .entry))) (now (table .entry)) (now (titles .entry)) (now (out .entry)) ⌝ }
+{
+    let stands = rules::given_of(given);
+    let a = tree_format::dot(table, titles, stands, standin, true, out);
     *answer = graph_five(a);
 }
 

@@ -10,13 +10,16 @@ use borrow.Author.Tests.{lt-ltb, le-ltb}
 use Rattle.rules.specs.Base.{pick, laid}
 use Rattle.rules.specs.Plan.{count, planOf}
 use Rattle.rules.specs.Levels.{columnAt}
-use Rattle.rules.specs.Numbers.{number, afterCount, afterNodes}
+use Rattle.rules.specs.Standin.{Standin, replaced}
+use Rattle.rules.specs.declared.Profile.{Profile}
 use Rattle.rules.specs.Graph.{Form, graph}
 use Rattle.rules.specs.Answers.{done, inRoom, graphAnswer, graphAfter}
 use Rattle.rules.specs.declared.Answer.{Answer}
-use Rattle.levels.specs.Accepted.{checked, Accepted}
+use Rattle.rules.proofs.Gates.{gate-graph, gate-next, gate-stops}
+use Rattle.levels.specs.Accepted.{afterAll, Accepted}
 use Rattle.levels.specs.Filled.{filled}
-use Rattle.levels.proofs.Accepted.{depth-small, graph-next, graph-stops}
+use Rattle.levels.proofs.Accepted.{depth-small}
+use Rattle.levels.proofs.Refused.{graph-all}
 use Rattle.levels.proofs.Filled.{filled-at}
 use Rattle.put.specs.Put.{Put}
 use Rattle.graphs.specs.Entries.{Ready}
@@ -46,10 +49,6 @@ module _ {G m : List ℕ} {need : ℕ} (p : Put G 0 [] m need) (l : List ℕ) wh
       let e : need ≡ length G = omega (arith, p .place) in
       (rw (le-ltb (length l) (length G) (omega arith)) (ap Answer.Done e), put-laid G l w r (rw counted at q) (omega arith))
 
--- a test that answers done, of an answer that is known
-pub passed : {r q : Answer} {b : Bool} → r ≡ q → b ≡ done r → b ≡ true → done q ≡ true
-passed e d h = sym (ap done e) ∙ sym d ∙ h
-
 -- the columns of an accepted table
 pub ready : {T B : List ℕ} → Accepted T B → (C D : List ℕ) → length D ≡ 256 → C ≡ filled (columnAt (planOf T [])) 0 (length T / 3) D → Ready T C
 unfolding count
@@ -61,20 +60,26 @@ ready {T} a C D h e =
       columns = λ k l. ap (λ c. getD c k 0) e ∙ filled-at (columnAt (planOf T [])) 0 (length T / 3) D k (omega arith) (omega arith) (omega (arith, a .few));
     }
 
--- the rules' answer and memory, of a table that is accepted and of one that is refused
-module _ (form : Form) (T B l : List ℕ) where
-  pub accepted-answer : {r : Answer} {m : List ℕ} → done (checked false T B) ≡ true
-      → (r ≡ inRoom (length l) (length (graph form (planOf T B)))) × (m ≡ pick (done r) (laid (graph form (planOf T B)) l) l)
-      → (r ≡ graphAnswer form T B (length l)) × (m ≡ graphAfter form T B l)
-  unfolding graphAnswer graphAfter
-  accepted-answer {r} {m} h q =
-      let e : r ≡ afterCount T (afterNodes T B (inRoom (length l) (length (graph form (planOf T B))))) =
-      q .0 ∙ sym (graph-next T B (inRoom (length l) (length (graph form (planOf T B)))) h) in
-      (e, q .1 ∙ ap (λ a. pick (done a) (laid (graph form (planOf T B)) l) l) e)
+-- the rules' answer and memory, of a table that is accepted and of one that is refused: the refusals before 9 are a gate, and
+-- `levels::refusal` tells what it makes of Done
+module _ (form : Form) (s : Standin) (T B l : List ℕ) where
+  abbrev needed : ℕ
+  needed = length (graph form (replaced s (planOf T B)))
 
-  pub refused-answer : {r : Answer} → r ≡ checked false T B → done r ≡ false → (r ≡ graphAnswer form T B (length l)) × (l ≡ graphAfter form T B l)
-  unfolding graphAnswer graphAfter pick
+  pub accepted-answer : {r : Answer} {m : List ℕ} → done (afterAll false Profile.Boxes s T B (Answer.Done 0)) ≡ true
+      → (r ≡ inRoom (length l) needed) × (m ≡ pick (done r) (laid (graph form (replaced s (planOf T B))) l) l)
+      → (r ≡ graphAnswer form s T B (length l)) × (m ≡ graphAfter form s T B l)
+  unfolding graphAfter graphAnswer
+  accepted-answer {r} {m} h q =
+      let e : r ≡ graphAnswer form s T B (length l) =
+      q .0 ∙ sym (gate-next (gate-graph (λ b. true) s T B) (ap done (sym (graph-all s T B (Answer.Done 0))) ∙ h) (inRoom (length l) needed)) in
+      (e, q .1 ∙ ap (λ a. pick (done a) (laid (graph form (replaced s (planOf T B))) l) l) e)
+
+  pub refused-answer : {r : Answer} → r ≡ afterAll false Profile.Boxes s T B (Answer.Done 0) → done r ≡ false
+      → (r ≡ graphAnswer form s T B (length l)) × (l ≡ graphAfter form s T B l)
+  unfolding graphAfter graphAnswer pick
   refused-answer {r} e h =
-      let q : afterCount T (afterNodes T B (inRoom (length l) (length (graph form (planOf T B))))) ≡ r =
-      graph-stops T B (inRoom (length l) (length (graph form (planOf T B)))) (ap done (sym e) ∙ h) ∙ sym e in
+      let g = e ∙ graph-all s T B (Answer.Done 0) in
+      let q : graphAnswer form s T B (length l) ≡ r =
+      gate-stops (gate-graph (λ b. true) s T B) (ap done (sym g) ∙ h) (inRoom (length l) needed) ∙ sym g in
       (sym q, rw (q, h))

@@ -11,10 +11,10 @@ use borrow.Author.Tests.{eq-eqb, ne-eqb}
 use Rattle.rules.specs.Base.{pick, concat, each}
 use Rattle.rules.specs.Utf8.{utf8}
 use Rattle.rules.specs.Lines.{letters, bytes}
-use Rattle.rules.specs.Plan.{Node, planOf}
+use Rattle.rules.specs.Plan.{Node}
 use Rattle.rules.specs.Levels.{view}
 use Rattle.rules.specs.Graph.{Form, joined, graph}
-use Rattle.levels.specs.Accepted.{Accepted}
+use Rattle.levels.specs.Shown.{Shows}
 use Rattle.graphs.specs.Forms.{formOf}
 use Rattle.graphs.specs.Entries.{lead, rowEntries, entriesIn, allEntries, gap}
 use Rattle.put.specs.Put.{Put}
@@ -60,10 +60,9 @@ pub length-graph : (form : Form) (p : List Node)
     ≡ 9 + length (concat lead (entriesIn form p (view p .rows))) + length (gap (7 + length (concat lead (entriesIn form p (view p .rows)))))
 length-graph form p = rw (graph-parts form p) (simp length-append (omega arith))
 
-pub graph-most : {T B : List ℕ} → Accepted T B → (f : Bool) → length (graph (formOf f) (planOf T B)) < 2 ^ 64
+pub graph-most : {given : Bool} {T : List ℕ} {p : List Node} → Shows given T p → (f : Bool) → length (graph (formOf f) p) < 2 ^ 64
 unfolding gap entriesIn rowEntries bytes concat letters utf8 pick
-graph-most {T} {B} a f =
-    let p = planOf T B in
+graph-most {p = p} a f =
     let n = 7 + length (concat lead (entriesIn (formOf f) p (view p .rows))) in
     omega (arith, length-graph (formOf f) p, gap-most (eqb n 7), rows-most a f (view p .rows) (levels-most a))
 

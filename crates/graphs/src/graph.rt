@@ -1,14 +1,16 @@
 // The graphs: one walk over the plan counts and writes, in both forms.
 use crate::label;
 use rules::Answer;
+use rules::Profile;
 ghost use mathlib.Core.Path.{_≡_};
 ghost use Prim.Native.Nat.{_+_, _<_, _≤_, _^_};
 ghost use lib.ListN.{length};
 ghost use Rattle.rules.specs.Base.{pick, concat, laid};
-ghost use Rattle.rules.specs.Plan.{count, depthIn, planOf};
+ghost use Rattle.rules.specs.Plan.{count, depthIn};
+ghost use Rattle.rules.specs.Standin.{none, standinOf};
 ghost use Rattle.rules.specs.Graph.{name, bare, fenced, graph as graphOf};
 ghost use Rattle.rules.specs.Answers.{done, inRoom, graphAnswer, graphAfter};
-ghost use Rattle.levels.specs.Accepted.{Accepted};
+ghost use Rattle.levels.specs.Shown.{planShown, Showable};
 ghost use Rattle.put.specs.Put.{Put};
 ghost use Rattle.graphs.specs.Forms.{formOf};
 ghost use Rattle.graphs.specs.Entries.{lead, spotIn, edgeIn, edgesIn, nodeIn, backward, rowEntries, allEntries, gap, Ready};
@@ -54,6 +56,7 @@ fn edges(
     out: &mut [u8],
     at: usize,
     table: &[u32],
+    given: bool,
     column: &[u32; 256],
     k: usize,
     end: usize,
@@ -61,88 +64,110 @@ fn edges(
 ) -> usize
     requires { ⌜ Ready (now table) (now column) ⌝ }
     requires { ⌜ (k < end) × (end ≤ count (now table)) ⌝ }
-    requires { ⌜ at + length (edgesIn (formOf fenced) (now table) k (backward (now table) k end (depthIn (now table) k + 1))) < 2 ^ 64 ⌝ }
-    ensures { λ r. ⌜ Put (edgesIn (formOf fenced) (now (table .entry)) k (backward (now (table .entry)) k end (depthIn (now (table .entry)) k + 1)))
+    requires { ⌜ at + length (edgesIn (formOf fenced) (now table) k (backward given (now table) k end (depthIn (now table) k + 1))) < 2 ^ 64 ⌝ }
+    ensures { λ r. ⌜ Put (edgesIn (formOf fenced) (now (table .entry)) k (backward given (now (table .entry)) k end (depthIn (now (table .entry)) k + 1)))
         at (now (out .entry)) (now (out .exit)) r ⌝ }
 {
     let depth = table[3 * k] + 1;
     let mut to = at;
-    let mut m = levels::previous_cell(table, k, end, depth);
+    let mut m = levels::previous_cell(table, given, k, end, depth);
     while k < m {
         to = edge(out, to, table, column, k, m, fenced);
-        m = levels::previous_cell(table, k, m, depth);
+        m = levels::previous_cell(table, given, k, m, depth);
     }
     to
 }
 
 // Puts the entry of node k, with what stands before an entry.
-fn node(
+fn node<'a>(
     out: &mut [u8],
     at: usize,
     table: &[u32],
-    titles: &[u8],
+    titles: &'a [u8],
+    given: bool,
+    standin: &'a [u8],
     column: &[u32; 256],
     k: usize,
     fenced: bool,
 ) -> usize
-    requires { ⌜ Accepted (now table) (now titles) × Ready (now table) (now column) ⌝ }
-    requires { ⌜ (k < count (now table)) × (at + length (nodeIn (formOf fenced) (planOf (now table) (now titles)) k) < 2 ^ 64) ⌝ }
-    ensures { λ r. ⌜ Put (nodeIn (formOf fenced) (planOf (now (table .entry)) (now (titles .entry))) k) at (now (out .entry)) (now (out .exit)) r ⌝ }
+    requires { ⌜ Showable given (now standin) (now table) (now titles) × Ready (now table) (now column) ⌝ }
+    requires { ⌜ (k < count (now table)) × (at + length (nodeIn (formOf fenced) (planShown given (now standin) (now table) (now titles)) k) < 2 ^ 64) ⌝ }
+    ensures { λ r. ⌜ Put (nodeIn (formOf fenced) (planShown given (now (standin .entry)) (now (table .entry)) (now (titles .entry))) k) at (now (out .entry)) (now (out .exit)) r ⌝ }
 {
     let a = put::bytes(out, at, b"\n    ");
     let b = name_of(out, a, table, column, k, fenced);
     let c = put::bytes(out, b, b" [label=\"");
-    let d = label::shown(out, c, levels::title(table, k, titles), fenced);
+    let d = label::shown(
+        out,
+        c,
+        levels::shown_title(table, k, titles, given, standin),
+        fenced,
+    );
     put::bytes(out, d, b"\", ordering=\"out\"]")
 }
 
 // Puts the entries of a row.
-fn row(
+fn row<'a>(
     out: &mut [u8],
     at: usize,
     table: &[u32],
     nodes: usize,
-    titles: &[u8],
+    titles: &'a [u8],
+    given: bool,
+    standin: &'a [u8],
     column: &[u32; 256],
     depth: u32,
     fenced: bool,
 ) -> usize
-    requires { ⌜ Accepted (now table) (now titles) × Ready (now table) (now column) × (nodes ≡ count (now table)) ⌝ }
-    requires { ⌜ at + length (concat lead (rowEntries (formOf fenced) (planOf (now table) (now titles)) depth)) < 2 ^ 64 ⌝ }
-    ensures { λ r. ⌜ Put (concat lead (rowEntries (formOf fenced) (planOf (now (table .entry)) (now (titles .entry))) depth))
+    requires { ⌜ Showable given (now standin) (now table) (now titles) × Ready (now table) (now column) × (nodes ≡ count (now table)) ⌝ }
+    requires { ⌜ at + length (concat lead (rowEntries (formOf fenced) (planShown given (now standin) (now table) (now titles)) depth)) < 2 ^ 64 ⌝ }
+    ensures { λ r. ⌜ Put (concat lead (rowEntries (formOf fenced) (planShown given (now (standin .entry)) (now (table .entry)) (now (titles .entry))) depth))
         at (now (out .entry)) (now (out .exit)) r ⌝ }
 {
     let mut to = at;
-    let mut k = levels::next_cell(table, nodes, 0, depth);
+    let mut k = levels::next_cell(table, given, nodes, 0, depth);
     while k < nodes {
-        let end = levels::next_cell(table, nodes, k + 1, depth);
-        to = node(out, to, table, titles, column, k, fenced);
-        to = edges(out, to, table, column, k, end, fenced);
+        let end = levels::next_cell(table, given, nodes, k + 1, depth);
+        to = node(out, to, table, titles, given, standin, column, k, fenced);
+        to = edges(out, to, table, given, column, k, end, fenced);
         k = end;
     }
     to
 }
 
 // Puts the entries of all rows.
-fn entries(
+fn entries<'a>(
     out: &mut [u8],
     at: usize,
     table: &[u32],
     nodes: usize,
-    titles: &[u8],
+    titles: &'a [u8],
+    given: bool,
+    standin: &'a [u8],
     column: &[u32; 256],
     fenced: bool,
 ) -> usize
-    requires { ⌜ Accepted (now table) (now titles) × Ready (now table) (now column) × (nodes ≡ count (now table)) ⌝ }
-    requires { ⌜ at + length (concat lead (allEntries (formOf fenced) (planOf (now table) (now titles)))) < 2 ^ 64 ⌝ }
-    ensures { λ r. ⌜ Put (concat lead (allEntries (formOf fenced) (planOf (now (table .entry)) (now (titles .entry)))))
+    requires { ⌜ Showable given (now standin) (now table) (now titles) × Ready (now table) (now column) × (nodes ≡ count (now table)) ⌝ }
+    requires { ⌜ at + length (concat lead (allEntries (formOf fenced) (planShown given (now standin) (now table) (now titles)))) < 2 ^ 64 ⌝ }
+    ensures { λ r. ⌜ Put (concat lead (allEntries (formOf fenced) (planShown given (now (standin .entry)) (now (table .entry)) (now (titles .entry)))))
         at (now (out .entry)) (now (out .exit)) r ⌝ }
 {
     let rows = levels::rows(table, nodes);
     let mut to = at;
     let mut i = 0;
     while i < rows {
-        to = row(out, to, table, nodes, titles, column, i, fenced);
+        to = row(
+            out,
+            to,
+            table,
+            nodes,
+            titles,
+            given,
+            standin,
+            column,
+            i,
+            fenced,
+        );
         i += 1;
     }
     to
@@ -160,64 +185,90 @@ fn no_entry(out: &mut [u8], at: usize) -> usize
 }
 
 // Puts the whole graph, as far as there is room.
-fn whole(
+fn whole<'a>(
     out: &mut [u8],
     table: &[u32],
     nodes: usize,
-    titles: &[u8],
+    titles: &'a [u8],
+    given: bool,
+    standin: &'a [u8],
     column: &[u32; 256],
     fenced: bool,
 ) -> usize
-    requires { ⌜ Accepted (now table) (now titles) × Ready (now table) (now column) × (nodes ≡ count (now table)) ⌝ }
-    ensures { λ r. ⌜ Put (graphOf (formOf fenced) (planOf (now (table .entry)) (now (titles .entry)))) 0 (now (out .entry)) (now (out .exit)) r ⌝ }
+    requires { ⌜ Showable given (now standin) (now table) (now titles) × Ready (now table) (now column) × (nodes ≡ count (now table)) ⌝ }
+    ensures { λ r. ⌜ Put (graphOf (formOf fenced) (planShown given (now (standin .entry)) (now (table .entry)) (now (titles .entry)))) 0 (now (out .entry)) (now (out .exit)) r ⌝ }
 {
     let a = put::bytes(out, 0, b"graph {");
-    let b = entries(out, a, table, nodes, titles, column, fenced);
+    let b = entries(out, a, table, nodes, titles, given, standin, column, fenced);
     let c = no_entry(out, b);
     put::bytes(out, c, b"\n}")
 }
 
 // Counts the graph of an accepted table, and puts it where there is room for all of it.
-fn fill(table: &[u32], titles: &[u8], column: &[u32; 256], out: &mut [u8], fenced: bool) -> Answer
-    requires { ⌜ Accepted (now table) (now titles) × Ready (now table) (now column) ⌝ }
-    ensures { λ r. ⌜ (r ≡ inRoom (length (now (out .entry))) (length (graphOf (formOf fenced) (planOf (now (table .entry)) (now (titles .entry))))))
-        × (now (out .exit) ≡ pick (done r) (laid (graphOf (formOf fenced) (planOf (now (table .entry)) (now (titles .entry)))) (now (out .entry))) (now (out .entry))) ⌝ }
+fn fill<'a>(
+    table: &[u32],
+    titles: &'a [u8],
+    given: bool,
+    standin: &'a [u8],
+    column: &[u32; 256],
+    out: &mut [u8],
+    fenced: bool,
+) -> Answer
+    requires { ⌜ Showable given (now standin) (now table) (now titles) × Ready (now table) (now column) ⌝ }
+    ensures { λ r. ⌜ (r ≡ inRoom (length (now (out .entry))) (length (graphOf (formOf fenced) (planShown given (now (standin .entry)) (now (table .entry)) (now (titles .entry))))))
+        × (now (out .exit) ≡ pick (done r) (laid (graphOf (formOf fenced) (planShown given (now (standin .entry)) (now (table .entry)) (now (titles .entry)))) (now (out .entry))) (now (out .entry))) ⌝ }
 {
     let nodes = table.len() / 3;
-    let need = whole(&mut out[..0], table, nodes, titles, column, fenced);
+    let need = whole(
+        &mut out[..0],
+        table,
+        nodes,
+        titles,
+        given,
+        standin,
+        column,
+        fenced,
+    );
     if out.len() < need {
         return Answer::Room(need);
     }
-    whole(out, table, nodes, titles, column, fenced);
+    whole(out, table, nodes, titles, given, standin, column, fenced);
     Answer::Done(need)
 }
 
-// The graph of a plan in either form.
-fn graph(table: &[u32], titles: &[u8], out: &mut [u8], fenced: bool) -> Answer
-    ensures { λ r. ⌜ (r ≡ graphAnswer (formOf fenced) (now (table .entry)) (now (titles .entry)) (length (now (out .entry))))
-        × (now (out .exit) ≡ graphAfter (formOf fenced) (now (table .entry)) (now (titles .entry)) (now (out .entry))) ⌝ }
+// The graph of a plan in either form, with a stand-in for empty titles if one is given.
+pub fn dot<'a>(
+    table: &[u32],
+    titles: &'a [u8],
+    given: bool,
+    standin: &'a [u8],
+    fenced: bool,
+    out: &mut [u8],
+) -> Answer
+    ensures { λ r. ⌜ (r ≡ graphAnswer (formOf fenced) (standinOf given (now (standin .entry))) (now (table .entry)) (now (titles .entry)) (length (now (out .entry))))
+        × (now (out .exit) ≡ graphAfter (formOf fenced) (standinOf given (now (standin .entry))) (now (table .entry)) (now (titles .entry)) (now (out .entry))) ⌝ }
 {
-    let refusal = levels::first_refusal(table, titles, false);
+    let refusal = levels::refusal(table, titles, given, standin, Profile::Boxes, false);
     if rules::done(refusal) {
         let mut column = [0u32; 256];
         levels::columns(table, table.len() / 3, &mut column);
-        return fill(table, titles, &column, out, fenced);
+        return fill(table, titles, given, standin, &column, out, fenced);
     }
     refusal
 }
 
 // 000's graph.
 pub fn tree_fmt_dot(table: &[u32], titles: &[u8], out: &mut [u8]) -> Answer
-    ensures { λ r. ⌜ (r ≡ graphAnswer bare (now (table .entry)) (now (titles .entry)) (length (now (out .entry))))
-        × (now (out .exit) ≡ graphAfter bare (now (table .entry)) (now (titles .entry)) (now (out .entry))) ⌝ }
+    ensures { λ r. ⌜ (r ≡ graphAnswer bare none (now (table .entry)) (now (titles .entry)) (length (now (out .entry))))
+        × (now (out .exit) ≡ graphAfter bare none (now (table .entry)) (now (titles .entry)) (now (out .entry))) ⌝ }
 {
-    graph(table, titles, out, false)
+    dot(table, titles, false, titles, false, out)
 }
 
 // The fenced graph.
 pub fn tree_fmt_fenced(table: &[u32], titles: &[u8], out: &mut [u8]) -> Answer
-    ensures { λ r. ⌜ (r ≡ graphAnswer fenced (now (table .entry)) (now (titles .entry)) (length (now (out .entry))))
-        × (now (out .exit) ≡ graphAfter fenced (now (table .entry)) (now (titles .entry)) (now (out .entry))) ⌝ }
+    ensures { λ r. ⌜ (r ≡ graphAnswer fenced none (now (table .entry)) (now (titles .entry)) (length (now (out .entry))))
+        × (now (out .exit) ≡ graphAfter fenced none (now (table .entry)) (now (titles .entry)) (now (out .entry))) ⌝ }
 {
-    graph(table, titles, out, true)
+    dot(table, titles, false, titles, true, out)
 }

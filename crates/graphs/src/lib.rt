@@ -2,5 +2,6 @@
 mod graph;
 mod label;
 
+pub use graph::dot;
 pub use graph::tree_fmt_dot;
 pub use graph::tree_fmt_fenced;

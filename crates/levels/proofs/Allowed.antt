@@ -1,14 +1,20 @@
 -- A test of every byte from the front, one byte or one run at a time: a byte that fails decides, and where none is left all have passed.
+-- And the four ways a stand-in is refused, one test at a time.
 use mathlib.Core.Path.{_≡_, refl, ap, sym, _∙_}
 use mathlib.Core.List.{List}
-use mathlib.Core.Bool.{Bool, true, false, _&&_}
+use mathlib.Core.Bool.{Bool, true, false, not, _&&_, _||_}
 use Prim.Native.Nat.{ℕ, suc, zero, _+_, _-_, _≤_, _<_}
 use native.Mathlib.Nat.{add-zero}
 use native.Mathlib.Numerals.{add-one}
 use native.Mathlib.Omega.{arith}
+use lib.Dec.{ltb, eqb}
 use lib.ListN.{length, getD, drop, drop-of-length-le}
 use lib.Seq.{drop-cons}
+use borrow.Author.Tests.{eq-eqb, ne-eqb, lt-ltb, le-ltb}
 use Rattle.rules.specs.Base.{every}
+use Rattle.rules.specs.Utf8.{valid}
+use Rattle.rules.specs.Standin.{standinOf}
+use Rattle.rules.specs.Numbers.{badStandin}
 
 module _ (t : ℕ → Bool) (s : List ℕ) (i : ℕ) (sofar : every t s ≡ every t (drop i s)) where
   step : i < length s → every t s ≡ (t (getD s i 0) && every t (drop (i + 1) s))
@@ -41,3 +47,26 @@ pub past-run : (t : ℕ → Bool) (s : List ℕ) (a e : ℕ) → a ≤ e → e �
 past-run t s a e l m h i =
     let z : a + (e - a) ≡ e = omega arith in
     past-many t s (e - a) a (omega arith) (λ k b c. h k b (omega arith)) i ∙ ap (λ (j : ℕ). every t (drop j s)) z
+
+module _ (t : ℕ → Bool) (given : Bool) (s : List ℕ) where
+  pub no-standin : given ≡ false → false ≡ badStandin t (standinOf given s)
+  unfolding badStandin
+  no-standin e = rw e
+
+  module _ (e : given ≡ true) where
+    pub empty-standin : length s ≡ 0 → true ≡ badStandin t (standinOf given s)
+    unfolding badStandin
+    empty-standin h = rw (e, eq-eqb (length s) 0 h)
+
+    module _ (n : length s ≡ 0 → ⊥) where
+      pub long-standin : 1024 < length s → true ≡ badStandin t (standinOf given s)
+      unfolding badStandin
+      long-standin h = rw (e, ne-eqb (length s) 0 n, lt-ltb 1024 (length s) h)
+
+      pub broken-standin : length s ≤ 1024 → valid s ≡ false → true ≡ badStandin t (standinOf given s)
+      unfolding badStandin
+      broken-standin h v = rw (e, ne-eqb (length s) 0 n, le-ltb 1024 (length s) h, v)
+
+      pub other-standin : length s ≤ 1024 → valid s ≡ true → not (every t s) ≡ badStandin t (standinOf given s)
+      unfolding badStandin
+      other-standin h v = rw (e, ne-eqb (length s) 0 n, le-ltb 1024 (length s) h, v)

@@ -4,6 +4,7 @@ pub mod Plans
 pub mod Empties
 pub mod Nodes
 pub mod Accepted
+pub mod Shown
 pub mod Refused
 pub mod Allowed
 pub mod Runs
@@ -11,4 +12,3 @@ pub mod Tests
 pub mod Between
 pub mod Cells
 pub mod Children
-pub mod Bounds

@@ -1,29 +1,40 @@
--- A drawing's refusals that have to do with the plan: 1 to 6, then 17, of which boxes have none. What passes all of them
--- is accepted, since the first six come first.
+-- The refusals that have to do with the plan and the stand-in: 1 to 6, then 12, then 17, of which boxes have none. What passes all of them
+-- is accepted, since the first six come first, and its stand-in may stand in.
 use mathlib.Core.Path.{_≡_, refl, sym, ap, _∙_}
 use mathlib.Core.List.{List}
 use mathlib.Core.Bool.{Bool, true, false, false≢true}
 use Prim.Native.Nat.{ℕ, _≤_, _<_}
 use native.Mathlib.Omega.{arith}
-use lib.Dec.{ltb}
+use lib.Dec.{ltb, eqb}
 use lib.ListN.{length}
 use borrow.Author.Tests.{le-ltb, lt-ltb, ltb-false, not-false}
 use Rattle.rules.specs.Base.{pick, every, first}
-use Rattle.rules.specs.Plan.{Node, count, planOf, nodeAt}
+use Rattle.rules.specs.Plan.{Node, count, titleIn, planOf, nodeAt}
 use Rattle.rules.specs.Look.{allowedIn}
-use Rattle.rules.specs.Numbers.{badPlain, firstSuch, afterPlain}
+use Rattle.rules.specs.Standin.{Standin, standinOf, shown}
+use Rattle.rules.specs.Numbers.{badStandin, badPlain, firstSuch, afterCount, afterNodes, afterStandin, afterPlain}
 use Rattle.rules.specs.Answers.{done, afterPlan}
 use Rattle.rules.specs.declared.Answer.{Answer}
 use Rattle.rules.specs.declared.Profile.{Profile}
 use Rattle.rules.proofs.Kept.{every-byte}
 use Rattle.rules.proofs.Firsts.{first-before}
-use Rattle.rules.proofs.Lists.{first-none}
-use Rattle.levels.specs.Accepted.{checked, badBytes, Accepted}
+use Rattle.rules.proofs.Lists.{first-none, length-plan}
+use Rattle.rules.proofs.Replaced.{fine-standin}
+use Rattle.levels.specs.Accepted.{checked, afterAll, badBytes}
+use Rattle.levels.specs.Shown.{planShown, Fine, Showable}
+use Rattle.levels.proofs.Plans.{node-plan}
+use Rattle.levels.proofs.Shown.{title-shown}
 use Rattle.levels.proofs.Accepted.{checked-accepted, checked-next, checked-stops, checked-some}
 
 -- what a test of an answer says of what the answer is
 pub said : {r x : Answer} {b v : Bool} → r ≡ x → b ≡ done r → b ≡ v → done x ≡ v
 said e d h = ap done (sym e) ∙ sym d ∙ h
+
+-- a test that stops at one refusal
+picked-done : (b : Bool) (next : Answer) → done (pick b Answer.Standin next) ≡ true → b ≡ false
+unfolding done pick
+picked-done true next h = absurd (false≢true h)
+picked-done false next h = refl
 
 -- what passes 17: every title keeps to the profile
 pub plain-kept : (allowed : ℕ → Bool) (p : List Node) → done (afterPlain allowed p (Answer.Done 0)) ≡ true → (k : ℕ) → k < length p → every allowed (nodeAt p k .title) ≡ true
@@ -36,33 +47,80 @@ plain-kept allowed p h k l = go (ltb (first (badPlain allowed p) (length p)) (le
     go false e z =
         not-false (every allowed (nodeAt p k .title)) (first-before (badPlain allowed p) (length p) k (omega (arith, ltb-false (first (badPlain allowed p) (length p)) (length p) e)))
 
-module _ (allowed : ℕ → Bool) (T B : List ℕ) where
-  -- past the first six 17 decides,
-  pub plan-later : done (checked true T B) ≡ true → afterPlan allowed T B (Answer.Done 0) ≡ afterPlain allowed (planOf T B) (Answer.Done 0)
-  unfolding afterPlan
-  plan-later h = checked-next true T B (afterPlain allowed (planOf T B) (Answer.Done 0)) h
+module _ (some : Bool) (profile : Profile) (s : Standin) (T B : List ℕ) where
+  -- past the first six,
+  pub all-later : (next : Answer) → done (checked some T B) ≡ true
+      → afterAll some profile s T B next ≡ afterStandin (allowedIn profile) s (afterPlain (allowedIn profile) (planOf T B) next)
+  unfolding afterAll
+  all-later next h = checked-next some T B (afterStandin (allowedIn profile) s (afterPlain (allowedIn profile) (planOf T B) next)) h
 
-  -- or one of them is the answer
-  pub plan-early : done (checked true T B) ≡ false → afterPlan allowed T B (Answer.Done 0) ≡ checked true T B
-  unfolding afterPlan
-  plan-early h = checked-stops true T B (afterPlain allowed (planOf T B) (Answer.Done 0)) h
+  -- or at one of them
+  pub all-early : (next : Answer) → done (checked some T B) ≡ false → afterAll some profile s T B next ≡ checked some T B
+  unfolding afterAll
+  all-early next h = checked-stops some T B (afterStandin (allowedIn profile) s (afterPlain (allowedIn profile) (planOf T B) next)) h
 
-  -- so what is done has passed the first six
-  plan-checked : done (afterPlan allowed T B (Answer.Done 0)) ≡ true → done (checked true T B) ≡ true
-  plan-checked h = go (done (checked true T B)) refl
+  -- what is done has passed the first six and the stand-in
+  past : (b : Bool) → done (checked some T B) ≡ b → done (afterAll some profile s T B (Answer.Done 0)) ≡ true → done (checked some T B) ≡ true
+  past true e h = e
+  past false e h = absurd (false≢true (sym e ∙ sym (ap done (all-early (Answer.Done 0) e)) ∙ h))
+
+  pub all-checked : done (afterAll some profile s T B (Answer.Done 0)) ≡ true → done (checked some T B) ≡ true
+  all-checked h = past (done (checked some T B)) refl h
+
+  pub all-fine : done (afterAll some profile s T B (Answer.Done 0)) ≡ true → badStandin (allowedIn profile) s ≡ false
+  unfolding afterStandin
+  all-fine h = picked-done (badStandin (allowedIn profile) s) _ (ap done (sym (all-later (Answer.Done 0) (all-checked h))) ∙ h)
+
+  -- and 17
+  all-keeps : done (afterAll some profile s T B (Answer.Done 0)) ≡ true → (k : ℕ) → k < length (planOf T B) → every (allowedIn profile) (nodeAt (planOf T B) k .title) ≡ true
+  unfolding afterStandin pick
+  all-keeps h =
+      plain-kept (allowedIn profile) (planOf T B)
+      (rw (all-fine h) at (ap done (sym (all-later (Answer.Done 0) (all-checked h))) ∙ h))
+
+fine : (profile : Profile) (given : Bool) (S : List ℕ) → badStandin (allowedIn profile) (standinOf given S) ≡ false → given ≡ true → Fine S
+fine profile true S e g =
+    let f = fine-standin (allowedIn profile) S e in
+    record { some = f .some; short = f .short; sound = f .sound }
+fine profile false S e g = absurd (false≢true g)
+
+-- a table that is done is accepted, and its stand-in may stand in
+pub all-showable : (some : Bool) (profile : Profile) (given : Bool) (S T B : List ℕ)
+    → done (afterAll some profile (standinOf given S) T B (Answer.Done 0)) ≡ true → Showable given S T B
+all-showable some profile given S T B h = record {
+  table = checked-accepted some T B (all-checked some profile (standinOf given S) T B h);
+  standin = fine profile given S (all-fine some profile (standinOf given S) T B h);
+}
+
+module _ (allowed : ℕ → Bool) (S t : List ℕ) where
+  either : every allowed S ≡ true → every allowed t ≡ true → every allowed (shown (standinOf true S) t) ≡ true
+  unfolding shown pick
+  either a b = go (eqb (length t) 0)
     where
-      go : (b : Bool) → done (checked true T B) ≡ b → done (checked true T B) ≡ true
-      go true e = e
-      go false e = absurd (false≢true (sym e ∙ sym (ap done (plan-early e)) ∙ h))
+      go : (c : Bool) → every allowed (pick c S t) ≡ true
+      go true = a
+      go false = b
 
-  pub plan-accepted : done (afterPlan allowed T B (Answer.Done 0)) ≡ true → Accepted T B
-  plan-accepted h = checked-accepted true T B (plan-checked h)
+  neither : every allowed t ≡ true → every allowed (shown (standinOf false S) t) ≡ true
+  unfolding shown
+  neither b = b
 
-  pub plan-keeps : done (afterPlan allowed T B (Answer.Done 0)) ≡ true → (k : ℕ) → k < length (planOf T B) → every allowed (nodeAt (planOf T B) k .title) ≡ true
-  plan-keeps h = plain-kept allowed (planOf T B) (ap done (sym (plan-later (plan-checked h))) ∙ h)
+-- and each title that is shown keeps to the profile: the node's own, or the stand-in
+pub shown-keeps : (some : Bool) (profile : Profile) (given : Bool) (S T B : List ℕ)
+    → done (afterAll some profile (standinOf given S) T B (Answer.Done 0)) ≡ true
+    → (k : ℕ) → k < count T → every (allowedIn profile) (nodeAt (planShown given S T B) k .title) ≡ true
+shown-keeps some profile given S T B h k l =
+    let a = all-showable some profile given S T B h in
+    let own = all-keeps some profile (standinOf given S) T B h k (omega (arith, length-plan T B)) in
+    rw (title-shown a k l) (go given (all-fine some profile (standinOf given S) T B h) (rw (node-plan T B k l) at own))
+  where
+    go : (g : Bool) → badStandin (allowedIn profile) (standinOf g S) ≡ false → every (allowedIn profile) (titleIn T B k) ≡ true
+        → every (allowedIn profile) (shown (standinOf g S) (titleIn T B k)) ≡ true
+    go true e own = either (allowedIn profile) S (titleIn T B k) (fine-standin (allowedIn profile) S e .keeps) own
+    go false e own = neither (allowedIn profile) S (titleIn T B k) own
 
-  pub plan-some : done (afterPlan allowed T B (Answer.Done 0)) ≡ true → 0 < count T
-  plan-some h = checked-some T B (plan-checked h)
+pub all-some : (profile : Profile) (s : Standin) (T B : List ℕ) → done (afterAll true profile s T B (Answer.Done 0)) ≡ true → 0 < count T
+all-some profile s T B h = checked-some T B (all-checked true profile s T B h)
 
 -- boxes allow every byte, so they have none of 17
 pub boxes-next : (p : List Node) (next : Answer) → afterPlain (allowedIn Profile.Boxes) p next ≡ next
@@ -70,6 +128,15 @@ unfolding afterPlain firstSuch pick
 boxes-next p next =
     rw (le-ltb (first (badPlain (allowedIn Profile.Boxes) p) (length p)) (length p)
     (omega (arith, first-none (badPlain (allowedIn Profile.Boxes) p) (length p) (λ k h. (unfold badPlain in rw (every-byte (nodeAt p k .title)))))))
+
+-- so they are the refusals of a drawing, and of a graph, which has no profile
+pub plan-all : (profile : Profile) (s : Standin) (T B : List ℕ) (next : Answer) → afterAll true profile s T B next ≡ afterPlan (allowedIn profile) s T B next
+unfolding afterAll afterPlan
+plan-all profile s T B next = refl
+
+pub graph-all : (s : Standin) (T B : List ℕ) (next : Answer) → afterAll false Profile.Boxes s T B next ≡ afterCount T (afterNodes T B (afterStandin (λ b. true) s next))
+unfolding afterAll allowedIn pick
+graph-all s T B next = ap (λ (k : Answer). afterCount T (afterNodes T B (afterStandin (λ b. true) s k))) (boxes-next (planOf T B) next)
 
 -- 17 as the code finds it: the first such node k of n, or n
 first-plain : (p : List Node) (n : ℕ) → first (badPlain (allowedIn Profile.Plain) p) n ≡ first (badBytes true p) n

@@ -1,4 +1,4 @@
--- Refusals 1 to 6 as the code asks for them, and what a table is that none of them meets.
+-- Refusals 1 to 6, 12 and 17 as the code asks for them, and what a table is that none of them meets.
 use mathlib.Core.Path.{_≡_}
 use mathlib.Core.List.{List}
 use mathlib.Core.Bool.{Bool, true, false, not, _&&_}
@@ -7,13 +7,26 @@ use lib.ListN.{length}
 use Rattle.rules.specs.Base.{pick, every}
 use Rattle.rules.specs.Utf8.{valid}
 use Rattle.rules.specs.Plan.{Node, mostNodes, count, planOf, nodeAt}
-use Rattle.rules.specs.Look.{printed}
-use Rattle.rules.specs.Numbers.{noNode, badDepth, badTitle, badUtf8, afterCount, afterNodes}
+use Rattle.rules.specs.Standin.{Standin}
+use Rattle.rules.specs.Look.{printed, allowedIn}
+use Rattle.rules.specs.Numbers.{noNode, badDepth, badTitle, badUtf8, afterCount, afterNodes, afterStandin, afterPlain}
 use Rattle.rules.specs.declared.Answer.{Answer}
+use Rattle.rules.specs.declared.Profile.{Profile}
 
 -- the first of refusals 1 to 6, number 3 only where some node is asked for; Done 0 if there is none
 unfoldable pub checked : Bool → List ℕ → List ℕ → Answer
 checked some T B = afterCount T (pick (some && noNode T) Answer.None (afterNodes T B (Answer.Done 0)))
+
+-- all refusals that have to do with the plan and the stand-in, and what comes after: 1 to 6 as above, 12, and 17 (in a profile that allows
+-- every byte there is none of 17)
+unfoldable pub afterAll : (some : Bool) (profile : Profile) → Standin → List ℕ → List ℕ → Answer → Answer
+afterAll some profile s T B next =
+    afterCount T
+    (pick (some && noNode T) Answer.None
+    (afterNodes T B
+    (afterStandin (allowedIn profile) s
+    (afterPlain (allowedIn profile) (planOf T B)
+    next))))
 
 -- what is asked of a title's bytes: 6 that they are valid, 17 that the plain profile prints them
 abbrev pub fineBytes : (plain : Bool) → List ℕ → Bool

@@ -1,4 +1,4 @@
-// The plan table: refusals 1 to 6 and 17, rows and columns, and the cells of a row.
+// The plan table: refusals 1 to 6, 12 and 17, rows and columns, and the cells of a row.
 mod place;
 mod profile;
 mod refuse;
@@ -10,6 +10,7 @@ pub use profile::keeps;
 pub use profile::refusal;
 pub use refuse::bad_depth;
 pub use refuse::first_refusal;
+pub use titles::shown_title;
 pub use titles::title;
 pub use walk::next_cell;
 pub use walk::previous_cell;

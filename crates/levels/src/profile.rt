@@ -1,11 +1,11 @@
-// What a profile asks of bytes, refusal 17, and all refusals that have to do with a drawing's plan.
+// What a profile asks of bytes, refusals 12 and 17, and all refusals that have to do with the plan and the stand-in.
 ghost use mathlib.Core.Path.{_≡_};
 ghost use Rattle.rules.specs.Base.{every};
 ghost use Rattle.rules.specs.Plan.{planOf};
 ghost use Rattle.rules.specs.Look.{printed, allowedIn};
-ghost use Rattle.rules.specs.Numbers.{afterPlain};
-ghost use Rattle.rules.specs.Answers.{afterPlan};
-ghost use Rattle.levels.specs.Accepted.{Accepted};
+ghost use Rattle.rules.specs.Standin.{standinOf};
+ghost use Rattle.rules.specs.Numbers.{badStandin, afterStandin, afterPlain};
+ghost use Rattle.levels.specs.Accepted.{afterAll, Accepted};
 use crate::refuse::bad_bytes;
 use crate::refuse::first_refusal;
 use rules::Answer;
@@ -63,13 +63,59 @@ fn later_refusal(table: &[u32], titles: &[u8], profile: Profile) -> Answer
     }
 }
 
-// The first of a drawing's refusals that have to do with the plan, 1 to 6 and 17; Done if there is none.
-pub fn refusal(table: &[u32], titles: &[u8], profile: Profile) -> Answer
-    ensures { λ r. ⌜ r ≡ afterPlan (allowedIn profile) (now (table .entry)) (now (titles .entry)) (Answer.Done 0) ⌝ }
+// The stand-in, if one is given, is empty, too long, not valid, or holds a byte that the profile does not allow.
+fn wrong_standin(given: bool, standin: &[u8], profile: Profile) -> bool
+    ensures { λ r. ⌜ r ≡ badStandin (allowedIn profile) (standinOf given (now (standin .entry))) ⌝ }
 {
-    let early = first_refusal(table, titles, true);
+    if !given {
+        return false;
+    }
+    if standin.len() == 0 {
+        return true;
+    }
+    if rules::MOST_TITLE < standin.len() {
+        return true;
+    }
+    if !utf8_valid::valid(standin) {
+        return true;
+    }
+    !keeps(standin, profile)
+}
+
+// Refusals 12 and 17 of an accepted table.
+fn shown_refusal(
+    table: &[u32],
+    titles: &[u8],
+    given: bool,
+    standin: &[u8],
+    profile: Profile,
+) -> Answer
+    requires { ⌜ Accepted (now table) (now titles) ⌝ }
+    ensures { λ r. ⌜ r
+        ≡ afterStandin (allowedIn profile) (standinOf given (now (standin .entry)))
+        (afterPlain (allowedIn profile) (planOf (now (table .entry)) (now (titles .entry))) (Answer.Done 0)) ⌝ }
+{
+    if wrong_standin(given, standin, profile) {
+        return Answer::Standin;
+    }
+    later_refusal(table, titles, profile)
+}
+
+// The first of the refusals that have to do with the plan and the stand-in, 1 to 6, 12 and 17, 3 only where `some` asks for a node; Done if
+// there is none.
+pub fn refusal(
+    table: &[u32],
+    titles: &[u8],
+    given: bool,
+    standin: &[u8],
+    profile: Profile,
+    some: bool,
+) -> Answer
+    ensures { λ r. ⌜ r ≡ afterAll some profile (standinOf given (now (standin .entry))) (now (table .entry)) (now (titles .entry)) (Answer.Done 0) ⌝ }
+{
+    let early = first_refusal(table, titles, some);
     if rules::done(early) {
-        return later_refusal(table, titles, profile);
+        return shown_refusal(table, titles, given, standin, profile);
     }
     early
 }

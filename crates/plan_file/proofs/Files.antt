@@ -11,6 +11,7 @@ use lib.Dec.{leb, eqb}
 use lib.ListN.{length, take, drop, length-append, length-drop}
 use lib.Seq.{take-at, length-take-le}
 use borrow.Author.Tests.{lt-ltb, eq-eqb, leb-true, eqb-true}
+use Rattle.rules.specs.Standin.{none}
 use Rattle.rules.specs.Look.{base}
 use Rattle.rules.specs.Base.{pick}
 use Rattle.rules.specs.Plan.{count}
@@ -39,7 +40,7 @@ whole-form F e =
     record { sum = eqb-true (length F) (offsetIn F + 12 * countIn F + 12) (b .0); small = leb-true (length F) 65536 (b .1) }
 
 -- a table of n whole nodes, n over 256, is MANY
-too-many : (T B : List ℕ) (n cells room : ℕ) → length T ≡ 3 * n → 256 < n → answer base T B cells room ≡ Answer.Many
+too-many : (T B : List ℕ) (n cells room : ℕ) → length T ≡ 3 * n → 256 < n → answer base none T B cells room ≡ Answer.Many
 unfolding answer afterPlan afterCount ragged many count pick
 too-many T B n cells room e h =
     let m : length T % 3 ≡ 0 = omega arith in
@@ -47,23 +48,23 @@ too-many T B n cells room e h =
     rw (m, lt-ltb 256 (length T / 3) q)
 
 module _ (T S B : List ℕ) (m n : ℕ) (eT : length T ≡ 3 * m) (hT : 256 < m) (eS : length S ≡ 3 * n) (hS : 256 < n) where
-  same-drawing : (cells room : ℕ) → drawing base T B cells room ≡ drawing base S B cells room
+  same-drawing : (cells room : ℕ) → drawing base none T B cells room ≡ drawing base none S B cells room
   unfolding drawing told done pick
   same-drawing cells room = rw (too-many T B m cells room eT hT, too-many S B n cells room eS hS)
 
-  same-canvas : (room : ℕ) (old : List ℕ) → canvasAfter base T B room old ≡ canvasAfter base S B room old
+  same-canvas : (room : ℕ) (old : List ℕ) → canvasAfter base none T B room old ≡ canvasAfter base none S B room old
   unfolding canvasAfter drew done pick
   same-canvas room old = rw (too-many T B m (length old) room eT hT, too-many S B n (length old) room eS hS)
 
-  same-out : (cells : ℕ) (old : List ℕ) → outAfter base T B cells old ≡ outAfter base S B cells old
+  same-out : (cells : ℕ) (old : List ℕ) → outAfter base none T B cells old ≡ outAfter base none S B cells old
   unfolding outAfter done pick
   same-out cells old = rw (too-many T B m cells (length old) eT hT, too-many S B n cells (length old) eS hS)
 
 -- the entries that are read stand for the whole table
 pub record Read (F T : List ℕ) : Type 0 where
-  pub draws : (cells room : ℕ) → drawing base T (titlesIn F) cells room ≡ drawing base (tableIn F) (titlesIn F) cells room
-  pub paints : (room : ℕ) (old : List ℕ) → canvasAfter base T (titlesIn F) room old ≡ canvasAfter base (tableIn F) (titlesIn F) room old
-  pub writes : (cells : ℕ) (old : List ℕ) → outAfter base T (titlesIn F) cells old ≡ outAfter base (tableIn F) (titlesIn F) cells old
+  pub draws : (cells room : ℕ) → drawing base none T (titlesIn F) cells room ≡ drawing base none (tableIn F) (titlesIn F) cells room
+  pub paints : (room : ℕ) (old : List ℕ) → canvasAfter base none T (titlesIn F) room old ≡ canvasAfter base none (tableIn F) (titlesIn F) room old
+  pub writes : (cells : ℕ) (old : List ℕ) → outAfter base none T (titlesIn F) cells old ≡ outAfter base none (tableIn F) (titlesIn F) cells old
 
 pub read : (F T : List ℕ) → T ≡ wordsFrom F (offsetIn F) (min (countIn F) 257 * 3) → Read F T
 unfolding tableIn wordsFrom
@@ -108,15 +109,15 @@ module _ (F : List ℕ) (offset few n : ℕ) (o : offset ≡ word F (length F - 
 
 -- so what the plan's drawing answers and leaves is what the file's does
 module _ (F T B : List ℕ) (h : formed F ≡ true) (t : T ≡ wordsFrom F (offsetIn F) (min (countIn F) 257 * 3)) (b : B ≡ titlesIn F) where
-  pub file-drawn : (cells room : ℕ) → drawing base T B cells room ≡ fileDrawing F cells room
+  pub file-drawn : (cells room : ℕ) → drawing base none T B cells room ≡ fileDrawing F cells room
   unfolding fileDrawing pick
   file-drawn cells room = rw (h, b) (read F T t .draws cells room)
 
-  pub file-painted : (room : ℕ) (old : List ℕ) → canvasAfter base T B room old ≡ fileCanvasAfter F room old
+  pub file-painted : (room : ℕ) (old : List ℕ) → canvasAfter base none T B room old ≡ fileCanvasAfter F room old
   unfolding fileCanvasAfter pick
   file-painted room old = rw (h, b) (read F T t .paints room old)
 
-  pub file-written : (cells : ℕ) (old : List ℕ) → outAfter base T B cells old ≡ fileOutAfter F cells old
+  pub file-written : (cells : ℕ) (old : List ℕ) → outAfter base none T B cells old ≡ fileOutAfter F cells old
   unfolding fileOutAfter pick
   file-written cells old = rw (h, b) (read F T t .writes cells old)
 

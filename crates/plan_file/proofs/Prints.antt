@@ -13,8 +13,10 @@ use Rattle.rules.specs.Lines.{digits, letters, bytes}
 use Rattle.rules.specs.Plan.{planOf}
 use Rattle.rules.specs.Numbers.{number, second}
 use Rattle.rules.specs.Drawing.{text}
+use Rattle.rules.specs.Standin.{none}
 use Rattle.rules.specs.Look.{base}
-use Rattle.rules.specs.Answers.{done, told, drawing, outAfter}
+use Rattle.rules.proofs.Replaced.{replaced-none}
+use Rattle.rules.specs.Answers.{answer, done, told, drawing, outAfter}
 use Rattle.rules.specs.File.{formed, tableIn, titlesIn, fileDrawing, fileCanvasAfter, fileOutAfter, refused, treetext}
 use Rattle.rules.specs.declared.Answer.{Answer}
 use Rattle.rules.specs.declared.Drawing.{Drawing}
@@ -57,6 +59,12 @@ unfolding pick done
 unchosen true d t old = refl
 unchosen false d t old = refl
 
+-- without a stand-in the output holds the text of the plan as it is
+out-none : (T B : List ℕ) (cells room : ℕ) (old : List ℕ) → length old ≡ room
+    → outAfter base none T B cells old ≡ pick (done (answer base none T B cells room)) (laid (text (base .len) (base .marks) (planOf T B)) old) old
+unfolding outAfter
+out-none T B cells room old e = rw (e, replaced-none (planOf T B))
+
 -- F's drawing d was answered, and left what canvas and output are now
 module _ (F canvas out : List ℕ) (cells : length canvas ≡ 16384) (room : length out ≡ 65536) {d : Drawing} {canvas′ out′ : List ℕ}
     (e : (d ≡ fileDrawing F (length canvas) (length out)) × (canvas′ ≡ fileCanvasAfter F (length out) canvas) × (out′ ≡ fileOutAfter F (length canvas) out)) where
@@ -64,8 +72,12 @@ module _ (F canvas out : List ℕ) (cells : length canvas ≡ 16384) (room : len
   drew = rw (cells, room) at (e .0)
 
   left : out′ ≡ pick (done (d .answer)) (laid (textIn F) out) out
-  unfolding fileOutAfter fileDrawing outAfter drawing told
-  left = e .2 ∙ rw (drew, cells, room) (unchosen (formed F) (drawing base (tableIn F) (titlesIn F) 16384 65536) (textIn F) out)
+  unfolding fileOutAfter fileDrawing drawing told
+  left =
+      e .2
+      ∙ rw (drew, cells)
+      (ap (λ (new : List ℕ). pick (formed F) new out) (out-none (tableIn F) (titlesIn F) 16384 65536 out room)
+      ∙ unchosen (formed F) (drawing base none (tableIn F) (titlesIn F) 16384 65536) (textIn F) out)
 
   -- what is printed is r bytes, laid in new, and the canvas is as the file's drawing leaves it
   abbrev pub Printed : ℕ → List ℕ → Type 0

@@ -2,6 +2,7 @@
 ghost use mathlib.Core.Path.{_≡_};
 ghost use Prim.Native.Nat.{_≤_};
 ghost use lib.ListN.{length, take};
+ghost use Rattle.rules.specs.Standin.{none};
 ghost use Rattle.rules.specs.Look.{base};
 ghost use Rattle.rules.specs.Answers.{drawing, canvasAfter, outAfter};
 ghost use Rattle.rules.specs.File.{fileDrawing, fileCanvasAfter, fileOutAfter};
@@ -25,9 +26,9 @@ fn draw_words(
     out: &mut [u8],
 ) -> Drawing
     requires { ⌜ (offset ≤ length (now file)) × (entries ≤ length (now table)) ⌝ }
-    ensures { λ r. ⌜ (r ≡ drawing base (wordsFrom (now (file .entry)) offset entries) (take offset (now (file .entry))) (length (now (canvas .entry))) (length (now (out .entry))))
-        × (now (canvas .exit) ≡ canvasAfter base (wordsFrom (now (file .entry)) offset entries) (take offset (now (file .entry))) (length (now (out .entry))) (now (canvas .entry)))
-        × (now (out .exit) ≡ outAfter base (wordsFrom (now (file .entry)) offset entries) (take offset (now (file .entry))) (length (now (canvas .entry))) (now (out .entry))) ⌝ }
+    ensures { λ r. ⌜ (r ≡ drawing base none (wordsFrom (now (file .entry)) offset entries) (take offset (now (file .entry))) (length (now (canvas .entry))) (length (now (out .entry))))
+        × (now (canvas .exit) ≡ canvasAfter base none (wordsFrom (now (file .entry)) offset entries) (take offset (now (file .entry))) (length (now (out .entry))) (now (canvas .entry)))
+        × (now (out .exit) ≡ outAfter base none (wordsFrom (now (file .entry)) offset entries) (take offset (now (file .entry))) (length (now (canvas .entry))) (now (out .entry))) ⌝ }
 {
     words(file, offset, &mut table[..entries]);
     tree_fmt_text(&table[..entries], &file[..offset], canvas, out)

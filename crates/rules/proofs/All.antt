@@ -3,7 +3,8 @@ use Rattle.rules.specs.Base.{pick, keep, every, any, greatest, concat, e
 use Rattle.rules.specs.Utf8.{span, tail, never, following, continues, valid, firstBits, more, pointsFrom, points, utf8}
 use Rattle.rules.specs.Lines.{onto, linesOf, digitsIn, digits, letters, bytes}
 use Rattle.rules.specs.Plan.{count, depthIn, startIn, sizeIn, titleIn, planOf, nodeAt, depthAt, depthRule}
-use Rattle.rules.specs.Numbers.{ragged, many, noNode, badDepth, badTitle, badUtf8, badPlain, firstSuch, afterCount, afterNodes, afterPlain}
+use Rattle.rules.specs.Standin.{shown, replaced}
+use Rattle.rules.specs.Numbers.{ragged, many, noNode, badDepth, badTitle, badUtf8, badStandin, badPlain, firstSuch, afterCount, afterNodes, afterStandin, afterPlain}
 use Rattle.rules.specs.Levels.{leaf, columnAt, rowsOf, columnsOf, cellAt, view, inRow, inColumn, nextColumn, children}
 use Rattle.rules.specs.Measures.{d, height, rowOffset, rowCentre, canvasHeight, cy, longest, width, columnOffset, columnCentre, canvasWidth, cx, area}
 use Rattle.rules.specs.Strokes.{mark, over}
@@ -22,7 +23,7 @@ unfolding pick keep every any greatest concat each total first halfUp same laid
     span tail never following continues valid firstBits more pointsFrom points utf8
     onto linesOf digitsIn digits letters bytes
     count depthIn startIn sizeIn titleIn planOf nodeAt depthAt depthRule
-    ragged many noNode badDepth badTitle badUtf8 badPlain firstSuch afterCount afterNodes afterPlain
+    ragged many noNode badDepth badTitle badUtf8 badStandin badPlain firstSuch afterCount afterNodes afterStandin afterPlain shown replaced
     leaf columnAt rowsOf columnsOf cellAt view inRow inColumn nextColumn children
     d height rowOffset rowCentre canvasHeight cy longest width columnOffset columnCentre canvasWidth cx area
     mark over picture canvasOf endOf rowText textOf boxTop boxBottom bendRow boxLeft boxRight lineOf

@@ -10,11 +10,12 @@ use lib.ListN.{length}
 use borrow.Author.Tests.{eqb-true}
 use Rattle.rules.specs.Base.{pick, first}
 use Rattle.rules.specs.Plan.{Node, planOf}
-use Rattle.rules.specs.Numbers.{number, noNode, badPlain, firstSuch, afterCount, afterNodes, afterPlain}
+use Rattle.rules.specs.Standin.{Standin}
+use Rattle.rules.specs.Numbers.{number, noNode, badStandin, badPlain, firstSuch, afterCount, afterNodes, afterStandin, afterPlain}
 use Rattle.rules.specs.Answers.{done, afterPlan}
 use Rattle.rules.specs.declared.Answer.{Answer}
 
--- a refusal that has to do with the plan, not with what is lent: neither done nor CANVAS nor ROOM
+-- a refusal that has to do with the plan or the stand-in, not with what is lent: neither done nor CANVAS nor ROOM
 pub record Early (a : Answer) : Type 0 where
   pub not-done : number a ≡ 0 → ⊥
   pub not-canvas : number a ≡ 8 → ⊥
@@ -73,19 +74,27 @@ gate-nodes T B =
     (gate-first _ _ Answer.Title (λ k. early (Answer.Title k) 5 refl (λ e. omega arith) (λ e. omega arith) (λ e. omega arith)))
     (gate-first _ _ Answer.Utf8 (λ k. early (Answer.Utf8 k) 6 refl (λ e. omega arith) (λ e. omega arith) (λ e. omega arith))))
 
-pub gate-graph : (T B : List ℕ) → Gate (λ next. afterCount T (afterNodes T B next))
-gate-graph T B = gate-then (afterCount T) (afterNodes T B) (gate-count T) (gate-nodes T B)
+pub gate-standin : (allowed : ℕ → Bool) (s : Standin) → Gate (afterStandin allowed s)
+unfolding afterStandin
+gate-standin allowed s =
+    gate-pick (badStandin allowed s) Answer.Standin (early Answer.Standin 12 refl (λ e. omega arith) (λ e. omega arith) (λ e. omega arith))
+
+pub gate-graph : (allowed : ℕ → Bool) (s : Standin) (T B : List ℕ) → Gate (λ next. afterCount T (afterNodes T B (afterStandin allowed s next)))
+gate-graph allowed s T B =
+    gate-then (afterCount T) (λ k. afterNodes T B (afterStandin allowed s k)) (gate-count T)
+    (gate-then (afterNodes T B) (afterStandin allowed s) (gate-nodes T B) (gate-standin allowed s))
 
 pub gate-plain : (allowed : ℕ → Bool) (p : List Node) → Gate (afterPlain allowed p)
 unfolding afterPlain
 gate-plain allowed p =
     gate-first (badPlain allowed p) (length p) Answer.Plain (λ k. early (Answer.Plain k) 17 refl (λ e. omega arith) (λ e. omega arith) (λ e. omega arith))
 
-pub gate-plan : (allowed : ℕ → Bool) (T B : List ℕ) → Gate (afterPlan allowed T B)
+pub gate-plan : (allowed : ℕ → Bool) (s : Standin) (T B : List ℕ) → Gate (afterPlan allowed s T B)
 unfolding afterPlan
-gate-plan allowed T B =
-    let plain = afterPlain allowed (planOf T B) in
-    gate-then (afterCount T) (λ k. pick (noNode T) Answer.None (afterNodes T B (plain k))) (gate-count T)
-    (gate-then (λ k. pick (noNode T) Answer.None k) (λ k. afterNodes T B (plain k))
+gate-plan allowed s T B =
+    let later : Answer → Answer = λ k. afterStandin allowed s (afterPlain allowed (planOf T B) k) in
+    gate-then (afterCount T) (λ k. pick (noNode T) Answer.None (afterNodes T B (later k))) (gate-count T)
+    (gate-then (λ k. pick (noNode T) Answer.None k) (λ k. afterNodes T B (later k))
     (gate-pick (noNode T) Answer.None (early Answer.None 3 refl (λ e. omega arith) (λ e. omega arith) (λ e. omega arith)))
-    (gate-then (afterNodes T B) plain (gate-nodes T B) (gate-plain allowed (planOf T B))))
+    (gate-then (afterNodes T B) later (gate-nodes T B)
+    (gate-then (afterStandin allowed s) (afterPlain allowed (planOf T B)) (gate-standin allowed s) (gate-plain allowed (planOf T B)))))

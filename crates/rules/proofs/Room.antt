@@ -1,5 +1,4 @@
--- What is done fits the room, and its second number is the text's length: number 0 is given only where its bytes are at most those
--- that were lent. What comes before is a gate (Gates.antt), which stops at refusals only, 7 and 8 are refusals too, and the last test is this one.
+-- The second number of a file's drawing that is done is the text's length. What comes before is a gate (Gates.antt), which stops at refusals only, 7 and 8 are refusals too, and the last test is this one.
 use mathlib.Core.Path.{_≡_, refl}
 use mathlib.Core.List.{List}
 use mathlib.Core.Bool.{Bool, true, false}
@@ -10,26 +9,20 @@ use lib.ListN.{length}
 use borrow.Author.Tests.{le-ltb, lt-ltb}
 use Rattle.rules.specs.Base.{pick}
 use Rattle.rules.specs.Plan.{planOf}
+use Rattle.rules.specs.Standin.{Standin, none, replaced}
 use Rattle.rules.specs.Drawing.{text}
 use Rattle.rules.specs.Numbers.{number, second}
 use Rattle.rules.specs.Look.{Look, base}
-use Rattle.rules.specs.Answers.{afterCells, inRoom, afterPlan, answer, told, drawing, graphAnswer}
+use Rattle.rules.specs.Answers.{afterCells, inRoom, afterPlan, answer, told, drawing}
 use Rattle.rules.specs.File.{formed, tableIn, titlesIn, fileDrawing}
-use Rattle.rules.specs.Graph.{Form}
 use Rattle.rules.specs.declared.Answer.{Answer}
 use Rattle.rules.specs.declared.Drawing.{Drawing}
-use Rattle.rules.proofs.Gates.{Gate, lets, stops, gate-graph, gate-plan}
-
-abbrev Within : ℕ → ℕ → Type 0
-Within room n = n ≤ room
+use Rattle.rules.proofs.Gates.{Gate, lets, stops, gate-plan}
+use Rattle.rules.proofs.Replaced.{replaced-none}
 
 -- where it is done, Q holds of its bytes
 abbrev Done : (ℕ → Type 0) → Answer → Type 0
 Done Q a = number a ≡ 0 → Q (second a)
-
--- in particular, they fit
-abbrev Fits : ℕ → Answer → Type 0
-Fits room = Done (Within room)
 
 module _ (Q : ℕ → Type 0) where
   either : (b : Bool) (x y : Answer) → Done Q x → Done Q y → Done Q (pick b x y)
@@ -54,9 +47,10 @@ module _ (Q : ℕ → Type 0) where
   celled needed cells room bytes q =
       either _ Answer.Large _ (λ e. absurd (omega arith)) (either _ (Answer.Canvas needed) _ (λ e. absurd (omega arith)) (last room bytes q))
 
-  answer-done : (look : Look) (T B : List ℕ) (cells room : ℕ) → (length (text (look .len) (look .marks) (planOf T B)) ≤ room → Q (length (text (look .len) (look .marks) (planOf T B)))) → Done Q (answer look T B cells room)
+  answer-done : (look : Look) (s : Standin) (T B : List ℕ) (cells room : ℕ)
+      → (length (text (look .len) (look .marks) (replaced s (planOf T B))) ≤ room → Q (length (text (look .len) (look .marks) (replaced s (planOf T B))))) → Done Q (answer look s T B cells room)
   unfolding answer
-  answer-done look T B cells room q = gated (afterPlan (look .allowed) T B) (gate-plan (look .allowed) T B) _ (celled _ cells room _ q)
+  answer-done look s T B cells room q = gated (afterPlan (look .allowed) s T B) (gate-plan (look .allowed) s T B) _ (celled _ cells room _ q)
 
   chosen : (b : Bool) (d e : Drawing) → Done Q (d .answer) → Done Q (e .answer) → Done Q (pick b d e .answer)
   unfolding pick
@@ -67,18 +61,8 @@ module _ (Q : ℕ → Type 0) where
       → (length (text (base .len) (base .marks) (planOf (tableIn F) (titlesIn F))) ≤ room → Q (length (text (base .len) (base .marks) (planOf (tableIn F) (titlesIn F)))))
       → Done Q (fileDrawing F cells room .answer)
   unfolding fileDrawing drawing told
-  file-done F cells room q = chosen (formed F) _ _ (answer-done base (tableIn F) (titlesIn F) cells room q) (λ e. absurd (omega arith))
-
-module _ (room : ℕ) where
-  pub answer-fits : (look : Look) (T B : List ℕ) (cells : ℕ) → Fits room (answer look T B cells room)
-  answer-fits look T B cells = answer-done (Within room) look T B cells room (λ l. l)
-
-  pub graph-fits : (form : Form) (T B : List ℕ) → Fits room (graphAnswer form T B room)
-  unfolding graphAnswer
-  graph-fits form T B = gated (Within room) _ (gate-graph T B) _ (last (Within room) room _ (λ l. l))
-
-  pub file-fits : (F : List ℕ) (cells : ℕ) → Fits room (fileDrawing F cells room .answer)
-  file-fits F cells = file-done (Within room) F cells room (λ l. l)
+  file-done F cells room q =
+      chosen (formed F) _ _ (answer-done base none (tableIn F) (titlesIn F) cells room (rw (replaced-none (planOf (tableIn F) (titlesIn F))) q)) (λ e. absurd (omega arith))
 
 -- a file's drawing that is done tells the length of its text
 abbrev Length : List ℕ → ℕ → Type 0

@@ -1,14 +1,15 @@
 -- Document 01, "Numbers it answers with": the order, what a drawing and a graph answer, and what they leave in the lent memory.
--- Document 02: over the look (iv, xiii).
+-- Document 02: over the look (iv, xiii) and the stand-in (i).
 -- T is the table, B the title bytes; `cells` and `room` are the lengths of the lent cells and output.
 use mathlib.Core.List.{List}
-use mathlib.Core.Bool.{Bool, _||_}
+use mathlib.Core.Bool.{Bool, true, _||_}
 use Prim.Native.Nat.{ℕ}
 use lib.Dec.{ltb, eqb}
 use lib.ListN.{length}
 use Rattle.rules.specs.Base.{pick, keep, laid}
 use Rattle.rules.specs.Plan.{Node, mostCells, planOf}
-use Rattle.rules.specs.Numbers.{number, noNode, afterCount, afterNodes, afterPlain}
+use Rattle.rules.specs.Standin.{Standin, replaced}
+use Rattle.rules.specs.Numbers.{number, noNode, afterCount, afterNodes, afterStandin, afterPlain}
 use Rattle.rules.specs.Levels.{view}
 use Rattle.rules.specs.Measures.{canvasWidth, canvasHeight, area}
 use Rattle.rules.specs.Drawing.{canvas, text}
@@ -40,32 +41,38 @@ inRoom room needed = pick (ltb room needed) (Answer.Room needed) (Answer.Done ne
 unfoldable pub untitled : List Node → ℕ
 untitled p = length (keep (λ n. eqb (length (n .title)) 0) p)
 
--- numbers 1 to 6 in this order, 17 after them, and what comes after
-unfoldable pub afterPlan : (ℕ → Bool) → List ℕ → List ℕ → Answer → Answer
-afterPlan allowed T B next =
+-- numbers 1 to 6 in this order, 12 after them, 17 after 12, and what comes after
+unfoldable pub afterPlan : (ℕ → Bool) → Standin → List ℕ → List ℕ → Answer → Answer
+afterPlan allowed s T B next =
     afterCount T
     (pick (noNode T) Answer.None
     (afterNodes T B
+    (afterStandin allowed s
     (afterPlain allowed (planOf T B)
-    next)))
+    next))))
 
-module _ (look : Look) where
+module _ (look : Look) (s : Standin) where
   open Look look using (len, marks, allowed)
+
+  -- (i) Result: the same as for the plan with every empty title replaced.
+  abbrev pub shownPlan : List ℕ → List ℕ → List Node
+  shownPlan T B = replaced s (planOf T B)
 
   -- 7, 8 and 9 after them
   unfoldable pub answer : List ℕ → List ℕ → ℕ → ℕ → Answer
   answer T B cells room =
-      afterPlan allowed T B
-      (afterCells (area len (view (planOf T B))) cells
-      (inRoom room (length (text len marks (planOf T B)))))
+      afterPlan allowed s T B
+      (afterCells (area len (view (shownPlan T B))) cells
+      (inRoom room (length (text len marks (shownPlan T B)))))
 
-  -- A finished drawing also answers width, height and the number of nodes with empty titles; a refused one answers 0 for all three.
+  -- A finished drawing also answers width, height and the number of nodes with empty titles ((i): the untitled count still counts the
+  -- empties); a refused one answers 0 for all three.
   unfoldable pub told : List ℕ → List ℕ → Answer → Drawing
   told T B a =
       record {
         answer = a;
-        width = pick (done a) (canvasWidth len (view (planOf T B))) 0;
-        height = pick (done a) (canvasHeight (view (planOf T B))) 0;
+        width = pick (done a) (canvasWidth len (view (shownPlan T B))) 0;
+        height = pick (done a) (canvasHeight (view (shownPlan T B))) 0;
         untitled = pick (done a) (untitled (planOf T B)) 0;
       }
 
@@ -75,17 +82,22 @@ module _ (look : Look) where
 
   -- Its first width times height canvas cells hold the code points row by row; all beyond is untouched. ROOM changes the canvas as done does.
   unfoldable pub canvasAfter : List ℕ → List ℕ → ℕ → List ℕ → List ℕ
-  canvasAfter T B room old = pick (drew (answer T B (length old) room)) (laid (canvas len marks (planOf T B)) old) old
+  canvasAfter T B room old = pick (drew (answer T B (length old) room)) (laid (canvas len marks (shownPlan T B)) old) old
 
   -- the output holds the text; all beyond is untouched. Every refusal leaves it as it was.
   unfoldable pub outAfter : List ℕ → List ℕ → ℕ → List ℕ → List ℕ
-  outAfter T B cells old = pick (done (answer T B cells (length old))) (laid (text len marks (planOf T B)) old) old
+  outAfter T B cells old = pick (done (answer T B cells (length old))) (laid (text len marks (shownPlan T B)) old) old
 
-module _ (form : Form) where
-  -- Graphs use no canvas and never give 3, 7 or 8; they have no marks, so they know no look and never give 17. (Width, height and the untitled count belong to drawings.)
+module _ (form : Form) (s : Standin) where
+  -- Graphs use no canvas and never give 3, 7 or 8; they have no marks, so they know no look and never give 17.
+  -- (Width, height and the untitled count belong to drawings.)
   unfoldable pub graphAnswer : List ℕ → List ℕ → ℕ → Answer
-  graphAnswer T B room = afterCount T (afterNodes T B (inRoom room (length (graph form (planOf T B)))))
+  graphAnswer T B room =
+      afterCount T
+      (afterNodes T B
+      (afterStandin (λ b. true) s
+      (inRoom room (length (graph form (replaced s (planOf T B)))))))
 
   -- the output holds the graph; all beyond is untouched. Every refusal leaves it as it was.
   unfoldable pub graphAfter : List ℕ → List ℕ → List ℕ → List ℕ
-  graphAfter T B old = pick (done (graphAnswer T B (length old))) (laid (graph form (planOf T B)) old) old
+  graphAfter T B old = pick (done (graphAnswer T B (length old))) (laid (graph form (replaced s (planOf T B))) old) old

@@ -1,4 +1,4 @@
--- Document 01, "File and program", in document 01's look. F is the file's bytes; `cells` and `room` are the lengths of the lent canvas and output.
+-- Document 01, "File and program", in document 01's look, without a stand-in. F is the file's bytes; `cells` and `room` are the lengths of the lent canvas and output.
 use mathlib.Core.List.{List, [], _∷_, _++_}
 use mathlib.Core.Bool.{Bool, _&&_}
 use Prim.Native.Nat.{ℕ, _+_, _*_, _-_}
@@ -8,6 +8,7 @@ use Rattle.rules.specs.Base.{pick, each, same}
 use Rattle.rules.specs.Lines.{digits, bytes}
 use Rattle.rules.specs.Plan.{planOf}
 use Rattle.rules.specs.Numbers.{number, second}
+use Rattle.rules.specs.Standin.{none}
 use Rattle.rules.specs.Drawing.{text}
 use Rattle.rules.specs.Look.{base}
 use Rattle.rules.specs.Answers.{done, drawing, canvasAfter, outAfter}
@@ -45,19 +46,19 @@ titlesIn F = take (offsetIn F) F
 -- else TRAILER, which is checked before all others (`let` keeps a broken file's table from being computed)
 unfoldable pub fileDrawing : List ℕ → ℕ → ℕ → Drawing
 fileDrawing F cells room =
-    let drawn = drawing base (tableIn F) (titlesIn F) cells room in
+    let drawn = drawing base none (tableIn F) (titlesIn F) cells room in
     pick (formed F) drawn (record { answer = Answer.Trailer; width = 0; height = 0; untitled = 0 })
 
 -- TRAILER changes no memory: the canvas,
 unfoldable pub fileCanvasAfter : List ℕ → ℕ → List ℕ → List ℕ
 fileCanvasAfter F room old =
-    let new = canvasAfter base (tableIn F) (titlesIn F) room old in
+    let new = canvasAfter base none (tableIn F) (titlesIn F) room old in
     pick (formed F) new old
 
 -- and the output
 unfoldable pub fileOutAfter : List ℕ → ℕ → List ℕ → List ℕ
 fileOutAfter F cells old =
-    let new = outAfter base (tableIn F) (titlesIn F) cells old in
+    let new = outAfter base none (tableIn F) (titlesIn F) cells old in
     pick (formed F) new old
 
 -- `refused`, number, second number, separated by spaces, then 0A

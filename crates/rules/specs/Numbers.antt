@@ -1,12 +1,13 @@
--- Document 01, "Numbers it answers with": the table, and document 02's 17. (What is answered when, and the memory: Answers.antt.)
+-- Document 01, "Numbers it answers with": the table, and document 02's 12 and 17. (What is answered when, and the memory: Answers.antt.)
 use mathlib.Core.List.{List}
-use mathlib.Core.Bool.{Bool, not, _||_}
+use mathlib.Core.Bool.{Bool, false, not, _||_}
 use Prim.Native.Nat.{ℕ, _+_, _%_}
 use lib.Dec.{leb, ltb, eqb}
 use lib.ListN.{length}
 use Rattle.rules.specs.Base.{pick, every, first}
 use Rattle.rules.specs.Utf8.{valid}
 use Rattle.rules.specs.Plan.{Node, mostNodes, mostLevels, mostTitle, count, startIn, sizeIn, planOf, nodeAt, depthAt, depthRule}
+use Rattle.rules.specs.Standin.{Standin, none, given}
 use Rattle.rules.specs.declared.Answer.{Answer}
 use Rattle.rules.specs.declared.Reading.{Reading}
 
@@ -23,6 +24,7 @@ number Answer.Large = 7
 number (Answer.Canvas needed) = 8
 number (Answer.Room needed) = 9
 number Answer.Trailer = 11
+number Answer.Standin = 12
 number (Answer.Plain node) = 17
 
 -- and their second numbers
@@ -38,6 +40,7 @@ second Answer.Large = 0
 second (Answer.Canvas needed) = needed
 second (Answer.Room needed) = needed
 second Answer.Trailer = 0
+second Answer.Standin = 0
 second (Answer.Plain node) = node
 
 -- the numbers of the picture reader's answers
@@ -82,6 +85,11 @@ badTitle T B k = ltb (length B) (startIn T k + sizeIn T k) || ltb mostTitle (siz
 unfoldable pub badUtf8 : List Node → ℕ → Bool
 badUtf8 p k = not (valid (nodeAt p k .title))
 
+-- (i) 12 STANDIN: the stand-in is empty, over 1,024 bytes or invalid UTF-8; (xiii): or breaks the rule of the profile
+unfoldable pub badStandin : (ℕ → Bool) → Standin → Bool
+badStandin allowed none = false
+badStandin allowed (given s) = eqb (length s) 0 || ltb mostTitle (length s) || not (valid s) || not (every allowed s)
+
 -- (xiii) 17 PLAIN: title that breaks the rule of the profile
 unfoldable pub badPlain : (ℕ → Bool) → List Node → ℕ → Bool
 badPlain allowed p k = not (every allowed (nodeAt p k .title))
@@ -101,6 +109,10 @@ afterNodes T B next =
     (firstSuch (badTitle T B) (count T) Answer.Title
     (firstSuch (badUtf8 (planOf T B)) (count T) Answer.Utf8
     next))
+
+-- 12, and what comes after
+unfoldable pub afterStandin : (ℕ → Bool) → Standin → Answer → Answer
+afterStandin allowed s next = pick (badStandin allowed s) Answer.Standin next
 
 -- 17, over all nodes, and what comes after
 unfoldable pub afterPlain : (ℕ → Bool) → List Node → Answer → Answer

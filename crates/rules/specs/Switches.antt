@@ -1,4 +1,5 @@
 -- A look as the door is told it: a number, each of whose bits is a switch. What has no name here is not looked at.
+use mathlib.Core.Bool.{Bool, true, false}
 use Prim.Native.Nat.{ℕ, _/_, _%_}
 use lib.Dec.{eqb}
 use Rattle.rules.specs.Base.{pick}
@@ -13,6 +14,10 @@ measureOf switches = pick (eqb (switches % 2) 1) Measure.Points Measure.Bytes
 -- 2: plain characters
 unfoldable pub profileOf : ℕ → Profile
 profileOf switches = pick (eqb (switches / 2 % 2) 1) Profile.Plain Profile.Boxes
+
+-- whether a stand-in is given: 0 no, else yes
+unfoldable pub givenOf : ℕ → Bool
+givenOf n = pick (eqb n 0) false true
 
 abbrev pub lookIn : ℕ → Look
 lookIn switches = lookOf (measureOf switches) (profileOf switches)

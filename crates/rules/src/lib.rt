@@ -11,6 +11,7 @@ pub use numbers::number;
 pub use numbers::reading_number;
 pub use numbers::reading_second;
 pub use numbers::second;
+pub use switches::given_of;
 pub use switches::measure_of;
 pub use switches::profile_of;
 
@@ -35,6 +36,7 @@ pub enum Answer {
     Canvas(usize),
     Room(usize),
     Trailer,
+    Standin,
     Plain(usize),
 }
 

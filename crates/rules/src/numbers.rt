@@ -21,6 +21,7 @@ pub fn number(a: Answer) -> u32
         Answer::Canvas(_) => 8,
         Answer::Room(_) => 9,
         Answer::Trailer => 11,
+        Answer::Standin => 12,
         Answer::Plain(_) => 17,
     }
 }
@@ -41,6 +42,7 @@ pub fn second(a: Answer) -> usize
         Answer::Canvas(needed) => needed,
         Answer::Room(needed) => needed,
         Answer::Trailer => 0,
+        Answer::Standin => 0,
         Answer::Plain(node) => node,
     }
 }

@@ -1,8 +1,8 @@
-// The measure and the profile that the switches of a look say.
+// The measure and the profile that the switches of a look say, and whether a stand-in is given.
 use crate::Measure;
 use crate::Profile;
 ghost use mathlib.Core.Path.{_≡_};
-ghost use Rattle.rules.specs.Switches.{measureOf, profileOf};
+ghost use Rattle.rules.specs.Switches.{measureOf, profileOf, givenOf};
 
 pub fn measure_of(look: u32) -> Measure
     ensures { λ r. ⌜ r ≡ measureOf look ⌝ }
@@ -20,4 +20,13 @@ pub fn profile_of(look: u32) -> Profile
         return Profile::Plain;
     }
     Profile::Boxes
+}
+
+pub fn given_of(n: u32) -> bool
+    ensures { λ r. ⌜ r ≡ givenOf n ⌝ }
+{
+    if n == 0 {
+        return false;
+    }
+    true
 }

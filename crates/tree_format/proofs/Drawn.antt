@@ -9,7 +9,8 @@ use native.Mathlib.Omega.{arith}
 use lib.Dec.{ltb, eqb}
 use lib.ListN.{length}
 use borrow.Author.Tests.{lt-ltb, le-ltb, eqb-true, ltb-false, ne-eqb}
-use Rattle.rules.specs.Look.{Look}
+use Rattle.rules.specs.Look.{Look, lenOf, marksOf, allowedIn, lookOf}
+use Rattle.rules.specs.Standin.{Standin, standinOf, replaced}
 use Rattle.rules.specs.Base.{pick, laid}
 use Rattle.rules.specs.Plan.{Node, mostCells, planOf}
 use Rattle.rules.specs.Numbers.{number}
@@ -19,9 +20,12 @@ use Rattle.rules.specs.Drawing.{Marks, canvas, text}
 use Rattle.rules.specs.Answers.{done, drew, afterCells, inRoom, untitled, afterPlan, answer, told as tellOf, drawing, canvasAfter, outAfter}
 use Rattle.rules.specs.declared.Answer.{Answer}
 use Rattle.rules.specs.declared.Drawing.{Drawing}
+use Rattle.rules.specs.declared.Measure.{Measure}
+use Rattle.rules.specs.declared.Profile.{Profile}
 use Rattle.rules.proofs.Gates.{Early, Gate, lets, stops, gate-plan, gate-next, gate-stops}
-use Rattle.levels.specs.Accepted.{Accepted}
-use Rattle.levels.proofs.Refused.{plan-accepted}
+use Rattle.levels.specs.Accepted.{afterAll}
+use Rattle.levels.specs.Shown.{planShown, Showable}
+use Rattle.levels.proofs.Refused.{plan-all, all-showable}
 use Rattle.tree_format.specs.Drawn.{nothing, Written, cellsAnswer, sizes, Fills, paintAnswer, painting, paintAfter}
 
 -- the last step, as its two ends show it
@@ -33,12 +37,12 @@ pub stored : {t out out′ : List ℕ} {w h u need n : ℕ} → need ≡ length 
 stored e l n o = record { short = λ s. absurd (omega arith); enough = λ s. (rw n, o) }
 
 -- 7, 8, or the picture
-module _ (len : List ℕ → ℕ) (marks : Marks) (p : List Node) (old : List ℕ) where
-  pub fills-large : mostCells < area len (view p) → Fills len marks p old (nothing Answer.Large) old
+module _ (len : List ℕ → ℕ) (marks : Marks) (p : List Node) (u : ℕ) (old : List ℕ) where
+  pub fills-large : mostCells < area len (view p) → Fills len marks p u old (nothing Answer.Large) old
   unfolding afterCells pick done
   fills-large h = record { answered = rw (lt-ltb mostCells (area len (view p)) h); left = rw (lt-ltb mostCells (area len (view p)) h) }
 
-  pub fills-canvas : area len (view p) ≤ mostCells → length old < area len (view p) → Fills len marks p old (nothing (Answer.Canvas (area len (view p)))) old
+  pub fills-canvas : area len (view p) ≤ mostCells → length old < area len (view p) → Fills len marks p u old (nothing (Answer.Canvas (area len (view p)))) old
   unfolding afterCells pick done
   fills-canvas l h = record {
     answered = rw (le-ltb mostCells (area len (view p)) l, lt-ltb (length old) (area len (view p)) h);
@@ -46,7 +50,7 @@ module _ (len : List ℕ → ℕ) (marks : Marks) (p : List Node) (old : List �
   }
 
   pub fills-done : area len (view p) ≤ mostCells → area len (view p) ≤ length old
-      → Fills len marks p old (record { answer = Answer.Done 0; width = canvasWidth len (view p); height = canvasHeight (view p); untitled = untitled p }) (laid (canvas len marks p) old)
+      → Fills len marks p u old (record { answer = Answer.Done 0; width = canvasWidth len (view p); height = canvasHeight (view p); untitled = u }) (laid (canvas len marks p) old)
   unfolding afterCells pick done
   fills-done l h = record {
     answered = rw (le-ltb mostCells (area len (view p)) l, le-ltb (length old) (area len (view p)) h);
@@ -54,32 +58,38 @@ module _ (len : List ℕ → ℕ) (marks : Marks) (p : List Node) (old : List �
   }
 
 -- the refusals that come before are a gate, and `levels::refusal` tells what it makes of Done
-module _ (look : Look) (T B : List ℕ) (old : List ℕ) where
-  open Look look using (len, marks, allowed)
+module _ (m : Measure) (f : Profile) (given : Bool) (S T B : List ℕ) (old : List ℕ) where
+  abbrev look : Look
+  look = lookOf m f
+
+  abbrev s : Standin
+  s = standinOf given S
 
   -- past them the picture decides,
-  pub paint-passed : {r : Drawing} {new : List ℕ} → done (afterPlan allowed T B (Answer.Done 0)) ≡ true → Fills len marks (planOf T B) old r new
-      → (r ≡ painting look T B (length old)) × (new ≡ paintAfter look T B old)
+  pub paint-passed : {r : Drawing} {new : List ℕ} → done (afterAll true f s T B (Answer.Done 0)) ≡ true
+      → Fills (lenOf m) (marksOf f) (planShown given S T B) (untitled (planOf T B)) old r new
+      → (r ≡ painting look s T B (length old)) × (new ≡ paintAfter look s T B old)
   unfolding painting paintAfter paintAnswer tellOf
   paint-passed ok q =
-      let e = gate-next (gate-plan allowed T B) ok (cellsAnswer len (planOf T B) (length old)) in
+      let e = gate-next (gate-plan (allowedIn f) s T B) (ap done (sym (plan-all f s T B (Answer.Done 0))) ∙ ok) (cellsAnswer (lenOf m) (planShown given S T B) (length old)) in
       (q .answered ∙ rw e, q .left ∙ rw e)
 
   -- or one of them is the answer
-  pub paint-refused : {a : Answer} → a ≡ afterPlan allowed T B (Answer.Done 0) → done a ≡ false
-      → (nothing a ≡ painting look T B (length old)) × (old ≡ paintAfter look T B old)
+  pub paint-refused : {a : Answer} → a ≡ afterAll true f s T B (Answer.Done 0) → done a ≡ false
+      → (nothing a ≡ painting look s T B (length old)) × (old ≡ paintAfter look s T B old)
   unfolding painting paintAfter paintAnswer tellOf pick
   paint-refused {a} q h =
-      let e : afterPlan allowed T B (cellsAnswer len (planOf T B) (length old)) ≡ a =
-      gate-stops (gate-plan allowed T B) (ap done (sym q) ∙ h) (cellsAnswer len (planOf T B) (length old)) ∙ sym q in
+      let g = q ∙ plan-all f s T B (Answer.Done 0) in
+      let e : afterPlan (allowedIn f) s T B (cellsAnswer (lenOf m) (planShown given S T B) (length old)) ≡ a =
+      gate-stops (gate-plan (allowedIn f) s T B) (ap done (sym g) ∙ h) (cellsAnswer (lenOf m) (planShown given S T B) (length old)) ∙ sym g in
       (rw (e, h), rw (e, h))
 
 -- after the picture the text, over any tests
-module _ (look : Look) (T B : List ℕ) where
+module _ (look : Look) (s : Standin) (T B : List ℕ) where
   open Look look using (len, marks, allowed)
 
   abbrev p : List Node
-  p = planOf T B
+  p = replaced s (planOf T B)
 
   abbrev needed : ℕ
   needed = area len (view p)
@@ -89,7 +99,7 @@ module _ (look : Look) (T B : List ℕ) where
 
   -- the picture is painted: nothing was refused, and the cells suffice
   pub record Painted (cells : ℕ) : Type 0 where
-    pub lets-all : (next : Answer) → afterPlan allowed T B next ≡ next
+    pub lets-all : (next : Answer) → afterPlan allowed s T B next ≡ next
     pub few : needed ≤ mostCells
     pub enough : needed ≤ cells
 
@@ -99,7 +109,7 @@ module _ (look : Look) (T B : List ℕ) where
   by-cells cells false true e f h = absurd (false≢true (rw (e, f) at h))
   by-cells cells false false e f h = (ltb-false mostCells needed e, ltb-false cells needed f)
 
-  painted : (cells : ℕ) → Gate (afterPlan allowed T B) → done (paintAnswer look T B cells) ≡ true → Painted cells
+  painted : (cells : ℕ) → Gate (afterPlan allowed s T B) → done (paintAnswer look s T B cells) ≡ true → Painted cells
   unfolding paintAnswer
   painted cells (lets g) h =
       let q = by-cells cells (ltb mostCells needed) (ltb cells needed) refl refl (ap done (sym (g (cellsAnswer len p cells))) ∙ h) in
@@ -107,24 +117,24 @@ module _ (look : Look) (T B : List ℕ) where
   painted cells (stops a e g) h =
       absurd (e .not-done (eqb-true (number a) 0 (unfold done in ap done (sym (g (cellsAnswer len p cells))) ∙ h)))
 
-  pub was-painted : (cells : ℕ) → done (paintAnswer look T B cells) ≡ true → Painted cells
-  was-painted cells h = painted cells (gate-plan allowed T B) h
+  pub was-painted : (cells : ℕ) → done (paintAnswer look s T B cells) ≡ true → Painted cells
+  was-painted cells h = painted cells (gate-plan allowed s T B) h
 
-  pub painted-fits : (cells : ℕ) → done (paintAnswer look T B cells) ≡ true → (needed ≤ mostCells) × (needed ≤ cells)
+  pub painted-fits : (cells : ℕ) → done (paintAnswer look s T B cells) ≡ true → (needed ≤ mostCells) × (needed ≤ cells)
   painted-fits cells h = let q = was-painted cells h in (q .few, q .enough)
 
   -- then ROOM or done
-  past : (cells room : ℕ) → Painted cells → answer look T B cells room ≡ inRoom room bytes
+  past : (cells room : ℕ) → Painted cells → answer look s T B cells room ≡ inRoom room bytes
   unfolding answer afterCells pick
   past cells room q = q .lets-all _ ∙ rw (le-ltb mostCells needed (q .few), le-ltb cells needed (q .enough))
 
   -- what the three equations of a drawing say
   pub record Drawn (canvas₀ out : List ℕ) (r : Drawing) (canvas′ out′ : List ℕ) : Type 0 where
-    pub answered : r ≡ drawing look T B (length canvas₀) (length out)
-    pub canvas-left : canvas′ ≡ canvasAfter look T B (length out) canvas₀
-    pub out-left : out′ ≡ outAfter look T B (length canvas₀) out
+    pub answered : r ≡ drawing look s T B (length canvas₀) (length out)
+    pub canvas-left : canvas′ ≡ canvasAfter look s T B (length out) canvas₀
+    pub out-left : out′ ≡ outAfter look s T B (length canvas₀) out
 
-  pub last-step : {canvas₀ out cells out′ : List ℕ} {r : Drawing} → done (paintAnswer look T B (length canvas₀)) ≡ true
+  pub last-step : {canvas₀ out cells out′ : List ℕ} {r : Drawing} → done (paintAnswer look s T B (length canvas₀)) ≡ true
       → cells ≡ laid (canvas len marks p) canvas₀
       → Written (text len marks p) out (canvasWidth len (view p)) (canvasHeight (view p)) (untitled (planOf T B)) r out′
       → Drawn canvas₀ out r cells out′
@@ -133,17 +143,17 @@ module _ (look : Look) (T B : List ℕ) where
       let q = was-painted (length canvas₀) ok in
       elim (decLe bytes (length out)) [
         | yes h ↦
-            (let a : answer look T B (length canvas₀) (length out) ≡ Answer.Done bytes = past (length canvas₀) (length out) q ∙ rw (le-ltb (length out) bytes h) in
+            (let a : answer look s T B (length canvas₀) (length out) ≡ Answer.Done bytes = past (length canvas₀) (length out) q ∙ rw (le-ltb (length out) bytes h) in
             record { answered = w .enough h .0 ∙ rw a; canvas-left = e ∙ rw a; out-left = w .enough h .1 ∙ rw a })
         | no h ↦
             (let k : length out < bytes = omega arith in
-            let a : answer look T B (length canvas₀) (length out) ≡ Answer.Room bytes = past (length canvas₀) (length out) q ∙ rw (lt-ltb (length out) bytes k) in
+            let a : answer look s T B (length canvas₀) (length out) ≡ Answer.Room bytes = past (length canvas₀) (length out) q ∙ rw (lt-ltb (length out) bytes k) in
             record { answered = w .short k .0 ∙ rw a; canvas-left = e ∙ rw a; out-left = w .short k .1 ∙ rw a })
       ]
 
   -- a picture that is not painted is a drawing that is refused, whatever the output is
   record Stopped (cells room : ℕ) (a : Answer) : Type 0 where
-    same : answer look T B cells room ≡ a
+    same : answer look s T B cells room ≡ a
     not-room : eqb (number a) 9 ≡ false
 
   by-tests : (cells room : ℕ) (b c : Bool) → ltb mostCells needed ≡ b → ltb cells needed ≡ c → done (cellsAnswer len p cells) ≡ false
@@ -153,7 +163,7 @@ module _ (look : Look) (T B : List ℕ) where
   by-tests cells room false true e f h = rw (e, f) (refl, refl)
   by-tests cells room false false e f h = absurd (false≢true (sym (rw (e, f) at h)))
 
-  stopped : (cells room : ℕ) → Gate (afterPlan allowed T B) → done (paintAnswer look T B cells) ≡ false → Stopped cells room (paintAnswer look T B cells)
+  stopped : (cells room : ℕ) → Gate (afterPlan allowed s T B) → done (paintAnswer look s T B cells) ≡ false → Stopped cells room (paintAnswer look s T B cells)
   unfolding answer paintAnswer
   stopped cells room (lets g) h =
       let i = g (cellsAnswer len p cells) in
@@ -163,11 +173,11 @@ module _ (look : Look) (T B : List ℕ) where
       let i = g (cellsAnswer len p cells) in
       record { same = g _ ∙ sym i; not-room = ap (λ (a : Answer). eqb (number a) 9) i ∙ ne-eqb (number a) 9 (e .not-room) }
 
-  pub not-painted : (canvas₀ out : List ℕ) → done (paintAnswer look T B (length canvas₀)) ≡ false
-      → Drawn canvas₀ out (painting look T B (length canvas₀)) canvas₀ out
+  pub not-painted : (canvas₀ out : List ℕ) → done (paintAnswer look s T B (length canvas₀)) ≡ false
+      → Drawn canvas₀ out (painting look s T B (length canvas₀)) canvas₀ out
   unfolding painting drawing tellOf canvasAfter outAfter drew pick
   not-painted canvas₀ out h =
-      let q = stopped (length canvas₀) (length out) (gate-plan allowed T B) h in
+      let q = stopped (length canvas₀) (length out) (gate-plan allowed s T B) h in
       record {
         answered = rw (q .same);
         canvas-left = rw (q .same, h, q .not-room);
@@ -175,7 +185,7 @@ module _ (look : Look) (T B : List ℕ) where
       }
 
   -- what the answer of the picture tells
-  pub paint-said : (cells : ℕ) {r : Drawing} {b v : Bool} → r ≡ painting look T B cells → b ≡ done (r .answer) → b ≡ v → done (paintAnswer look T B cells) ≡ v
+  pub paint-said : (cells : ℕ) {r : Drawing} {b v : Bool} → r ≡ painting look s T B cells → b ≡ done (r .answer) → b ≡ v → done (paintAnswer look s T B cells) ≡ v
   unfolding painting tellOf
   paint-said cells e d h = ap (λ (r : Drawing). done (r .answer)) (sym e) ∙ sym d ∙ h
 
@@ -185,8 +195,8 @@ module _ (look : Look) (T B : List ℕ) where
     pub untitled-is : r .untitled ≡ untitled (planOf T B)
     pub cells-are : new ≡ laid (canvas len marks p) old
 
-  pub painted-left : (old : List ℕ) {new : List ℕ} {r : Drawing} → done (paintAnswer look T B (length old)) ≡ true → r ≡ painting look T B (length old)
-      → new ≡ paintAfter look T B old → Left old r new
+  pub painted-left : (old : List ℕ) {new : List ℕ} {r : Drawing} → done (paintAnswer look s T B (length old)) ≡ true → r ≡ painting look s T B (length old)
+      → new ≡ paintAfter look s T B old → Left old r new
   unfolding painting paintAfter tellOf pick
   painted-left old ok e f = record {
     width-is = ap (λ (r : Drawing). r .width) e ∙ rw ok;
@@ -195,12 +205,14 @@ module _ (look : Look) (T B : List ℕ) where
     cells-are = f ∙ rw ok;
   }
 
-  pub unpainted-left : (old : List ℕ) {new : List ℕ} → done (paintAnswer look T B (length old)) ≡ false → new ≡ paintAfter look T B old → new ≡ old
+  pub unpainted-left : (old : List ℕ) {new : List ℕ} → done (paintAnswer look s T B (length old)) ≡ false → new ≡ paintAfter look s T B old → new ≡ old
   unfolding paintAfter pick
   unpainted-left old h f = f ∙ rw h
 
 -- a plan that was painted is one that no refusal meets
-pub painted-accepted : (look : Look) (T B : List ℕ) (cells : ℕ) → done (paintAnswer look T B cells) ≡ true → Accepted T B
+pub painted-showable : (m : Measure) (f : Profile) (given : Bool) (S T B : List ℕ) (cells : ℕ)
+    → done (paintAnswer (lookOf m f) (standinOf given S) T B cells) ≡ true → Showable given S T B
 unfolding done
-painted-accepted look T B cells ok =
-    plan-accepted (look .allowed) T B (ap done (was-painted look T B cells ok .lets-all (Answer.Done 0)))
+painted-showable m f given S T B cells ok =
+    let q = was-painted (lookOf m f) (standinOf given S) T B cells ok in
+    all-showable true f given S T B (ap done (plan-all f (standinOf given S) T B (Answer.Done 0) ∙ q .lets-all (Answer.Done 0)))

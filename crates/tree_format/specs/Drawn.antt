@@ -4,44 +4,46 @@ use mathlib.Core.List.{List}
 use Prim.Native.Nat.{ℕ, _≤_, _<_}
 use lib.ListN.{length}
 use Rattle.rules.specs.Base.{pick, laid}
-use Rattle.rules.specs.Plan.{Node, planOf}
+use Rattle.rules.specs.Plan.{Node}
+use Rattle.rules.specs.Standin.{Standin}
 use Rattle.rules.specs.Levels.{view}
 use Rattle.rules.specs.Measures.{canvasWidth, canvasHeight, area}
 use Rattle.rules.specs.Drawing.{Marks, canvas}
 use Rattle.rules.specs.Look.{Look}
-use Rattle.rules.specs.Answers.{done, untitled, afterCells, afterPlan, told}
+use Rattle.rules.specs.Answers.{done, afterCells, shownPlan, afterPlan, told}
 use Rattle.rules.specs.declared.Answer.{Answer}
 use Rattle.rules.specs.declared.Drawing.{Drawing}
 
--- what is answered by one that paints the canvas and writes no text: refusals 1 to 8 and 17, or Done with no bytes;
-module _ (look : Look) (T B : List ℕ) where
+-- what is answered by one that paints the canvas and writes no text: refusals 1 to 8, 12 and 17 in a drawing's order, or Done with no bytes;
+module _ (look : Look) (s : Standin) (T B : List ℕ) where
   open Look look using (len, marks, allowed)
 
   unfoldable pub paintAnswer : (cells : ℕ) → Answer
-  paintAnswer cells = afterPlan allowed T B (afterCells (area len (view (planOf T B))) cells (Answer.Done 0))
+  paintAnswer cells =
+      afterPlan allowed s T B (afterCells (area len (view (shownPlan look s T B))) cells (Answer.Done 0))
 
   -- with the size and the untitled count, as a drawing tells them;
   unfoldable pub painting : (cells : ℕ) → Drawing
-  painting cells = told look T B (paintAnswer cells)
+  painting cells = told look s T B (paintAnswer cells)
 
   -- and the canvas is changed by Done alone: it holds what a drawing leaves on it
   unfoldable pub paintAfter : (old : List ℕ) → List ℕ
-  paintAfter old = pick (done (paintAnswer (length old))) (laid (canvas len marks (planOf T B)) old) old
+  paintAfter old = pick (done (paintAnswer (length old))) (laid (canvas len marks (shownPlan look s T B)) old) old
 
--- the same of a plan p that no refusal before 7 meets
+-- the same of a plan p with u empty titles that no refusal before 7 meets
 abbrev pub cellsAnswer : (len : List ℕ → ℕ) → List Node → (cells : ℕ) → Answer
 cellsAnswer len p cells = afterCells (area len (view p)) cells (Answer.Done 0)
 
-abbrev pub sizes : (len : List ℕ → ℕ) → List Node → Answer → Drawing
-sizes len p a = record {
+abbrev pub sizes : (len : List ℕ → ℕ) → List Node → (u : ℕ) → Answer → Drawing
+sizes len p u a = record {
   answer = a;
   width = pick (done a) (canvasWidth len (view p)) 0;
   height = pick (done a) (canvasHeight (view p)) 0;
-  untitled = pick (done a) (untitled p) 0;
+  untitled = pick (done a) u 0;
 }
 
-pub record Fills (len : List ℕ → ℕ) (marks : Marks) (p : List Node) (old : List ℕ) (r : Drawing) (new : List ℕ) : Type 0 where
-  pub answered : r ≡ sizes len p (cellsAnswer len p (length old))
+pub record Fills (len : List ℕ → ℕ) (marks : Marks) (p : List Node) (u : ℕ) (old : List ℕ) (r : Drawing) (new : List ℕ) : Type 0 where
+  pub answered : r ≡ sizes len p u (cellsAnswer len p (length old))
   pub left : new ≡ pick (done (cellsAnswer len p (length old))) (laid (canvas len marks p) old) old
 
 -- an answer without a drawing

@@ -12,12 +12,12 @@ use Rattle.graphs.proofs.graph.edges.Statement.{statement}
 use Rattle.graphs.proofs.graph.edges.Tie as tie
 
 abbrev Inv-loop : tie.InvT-loop
-Inv-loop out₀ at table column k end fenced depth to₀ m₀ out to m =
-    (k ≤ m) × (m < end) × Left (edgesIn (formOf fenced) table k (backward table k end (depthIn table k + 1))) at out₀
-    (edgesIn (formOf fenced) table k (onward table k (depthIn table k + 1) m)) to out
+Inv-loop out₀ at table given column k end fenced depth to₀ m₀ out to m =
+    (k ≤ m) × (m < end) × Left (edgesIn (formOf fenced) table k (backward given table k end (depthIn table k + 1))) at out₀
+    (edgesIn (formOf fenced) table k (onward given table k (depthIn table k + 1) m)) to out
 
 abbrev μ-loop : tie.MeasureT-loop
-μ-loop out₀ at table column k end fenced depth to₀ m₀ out to m = m
+μ-loop out₀ at table given column k end fenced depth to₀ m₀ out to m = m
 
 mul-depth : tie.Need-mul-depth Inv-loop μ-loop
 mul-depth c = search needs
@@ -40,7 +40,7 @@ unfolding depthIn
 loop-holds c =
     let s = c .before .before .before .before in
     let a = s .args in
-    let r = met (a .table .now) (a .k) (depthIn (a .table .now) (a .k) + 1) (a .end) (search needs) in
+    let r = met (a .given) (a .table .now) (a .k) (depthIn (a .table .now) (a .k) + 1) (a .end) (search needs) in
     rw (c .previous-cell .ensures) (r .low, r .high, rw (← r .meets) all)
 
 edge-requires : tie.Need-edge-requires Inv-loop μ-loop
@@ -54,8 +54,8 @@ edge-requires c κs =
       (
         search needs,
         search needs,
-        fits (edgeIn f (a .table .now) (a .k) (l .m)) (edgesIn f (a .table .now) (a .k) (onward (a .table .now) (a .k) i (previousCell (a .table .now) (a .k) (l .m) i)))
-            (l .inv .2) (edges-some f (a .table .now) (a .k) i (l .m) (search needs)) (s .pre .1 .1),
+        fits (edgeIn f (a .table .now) (a .k) (l .m)) (edgesIn f (a .table .now) (a .k) (onward (a .given) (a .table .now) (a .k) i (previousCell (a .given) (a .table .now) (a .k) (l .m) i)))
+            (l .inv .2) (edges-some f (a .given) (a .table .now) (a .k) i (l .m) (search needs)) (s .pre .1 .1),
       ),
     )
 
@@ -68,7 +68,7 @@ loop-less c =
     let s = c .before .before .before .before .before .before .before .before .before .before .before in
     let a = s .args in
     let l = c .before .before .before .before .before .before .loop in
-    rw (c .previous-cell2 .ensures) (met (a .table .now) (a .k) (depthIn (a .table .now) (a .k) + 1) (l .m) (search needs) .high)
+    rw (c .previous-cell2 .ensures) (met (a .given) (a .table .now) (a .k) (depthIn (a .table .now) (a .k) + 1) (l .m) (search needs) .high)
 
 loop-again : tie.Need-loop-again Inv-loop μ-loop
 unfolding depthIn
@@ -78,12 +78,12 @@ loop-again c =
     let l = c .before .before .before .before .before .before .loop in
     let i = depthIn (a .table .now) (a .k) + 1 in
     let f = formOf (a .fenced) in
-    let r = met (a .table .now) (a .k) i (l .m) (search needs) in
+    let r = met (a .given) (a .table .now) (a .k) i (l .m) (search needs) in
     rw (c .previous-cell2 .ensures) (
       r .low,
       (let h = r .high in search needs),
-      step (edgeIn f (a .table .now) (a .k) (l .m)) (edgesIn f (a .table .now) (a .k) (onward (a .table .now) (a .k) i (previousCell (a .table .now) (a .k) (l .m) i)))
-          (l .inv .2) (edges-some f (a .table .now) (a .k) i (l .m) (search needs)) (c .before .before .before .edge .ensures),
+      step (edgeIn f (a .table .now) (a .k) (l .m)) (edgesIn f (a .table .now) (a .k) (onward (a .given) (a .table .now) (a .k) i (previousCell (a .given) (a .table .now) (a .k) (l .m) i)))
+          (l .inv .2) (edges-some f (a .given) (a .table .now) (a .k) i (l .m) (search needs)) (c .before .before .before .edge .ensures),
     )
 
 same-length : tie.Need-same-length Inv-loop μ-loop
@@ -94,7 +94,7 @@ returns c =
     let s = c .before .before .before .before .before .before in
     let a = s .args in
     let l = c .before .loop in
-    end (l .inv .2) (edges-none (formOf (a .fenced)) (a .table .now) (a .k) (depthIn (a .table .now) (a .k) + 1) (l .m) (search needs))
+    end (l .inv .2) (edges-none (formOf (a .fenced)) (a .given) (a .table .now) (a .k) (depthIn (a .table .now) (a .k) + 1) (l .m) (search needs))
 
 pub edges-spec : {M : Type 1} → statement M
 edges-spec =

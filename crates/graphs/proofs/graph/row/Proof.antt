@@ -6,7 +6,9 @@ use mathlib.Core.Bool.{true}
 use Prim.Native.Nat.{_≤_, _<_, _+_, _-_}
 use native.Mathlib.Omega.{arith}
 use Rattle.rules.specs.Base.{concat}
-use Rattle.rules.specs.Plan.{depthIn, planOf}
+use Rattle.rules.specs.Plan.{depthIn}
+use Rattle.levels.specs.Shown.{planShown}
+use Rattle.levels.proofs.Shown.{shows}
 use Rattle.levels.specs.Cells.{cellIn}
 use Rattle.graphs.specs.Forms.{formOf}
 use Rattle.graphs.specs.Entries.{lead, edgesIn, nodeIn, backward, rowEntries}
@@ -16,23 +18,23 @@ use Rattle.graphs.proofs.graph.row.Statement.{statement}
 use Rattle.graphs.proofs.graph.row.Tie as tie
 
 abbrev Inv-loop : tie.InvT-loop
-Inv-loop out₀ at table nodes titles column depth fenced to₀ k₀ out to k =
-    (k ≤ nodes) × (k < nodes → cellIn table depth k ≡ true)
-    × Left (concat lead (rowEntries (formOf fenced) (planOf table titles) depth)) at out₀ (rowFrom (formOf fenced) table titles depth k) to out
+Inv-loop out₀ at table nodes titles given standin column depth fenced to₀ k₀ out to k =
+    (k ≤ nodes) × (k < nodes → cellIn given table depth k ≡ true)
+    × Left (concat lead (rowEntries (formOf fenced) (planShown given standin table titles) depth)) at out₀ (rowFrom (formOf fenced) table (planShown given standin table titles) depth k) to out
 
 abbrev μ-loop : tie.MeasureT-loop
-μ-loop out₀ at table nodes titles column depth fenced to₀ k₀ out to k = nodes - k
+μ-loop out₀ at table nodes titles given standin column depth fenced to₀ k₀ out to k = nodes - k
 
 next-cell-requires : tie.Need-next-cell-requires Inv-loop μ-loop
 next-cell-requires c κs = search needs
 
 loop-holds : tie.Need-loop-holds Inv-loop μ-loop
 loop-holds c =
-    let s = c .before .before .before .before in
+    let s = c .before .before .before .before .before in
     let a = s .args in
     let f = formOf (a .fenced) in
-    let r = reached (s .pre .0 .0) f (a .depth) (a .nodes) 0 (c .next-cell .result) (s .pre .0 .2) (c .next-cell .ensures) (search needs) in
-    (r .high, r .has, rw (← r .same, ← row-whole (s .pre .0 .0) f (a .depth)) all)
+    let r = reached (shows (s .pre .0 .0)) f (a .depth) (a .nodes) 0 (c .next-cell .result) (s .pre .0 .2) (c .next-cell .ensures) (search needs) in
+    (r .high, r .has, rw (← r .same, ← row-whole (shows (s .pre .0 .0)) f (a .depth)) all)
 
 add-next-cell : tie.Need-add-next-cell Inv-loop μ-loop
 add-next-cell c = search needs
@@ -42,68 +44,68 @@ next-cell-requires-2 c κs = search needs
 
 node-requires : tie.Need-node-requires Inv-loop μ-loop
 node-requires c κs =
-    let s = c .before .before .before .before .before .before .before .before in
+    let s = c .before .before .before .before .before .before .before .before .before in
     let a = s .args in
     let f = formOf (a .fenced) in
     let l = c .before .before .before .loop in
     let e = c .before .next-cell2 in
     let T = a .table .now in
-    let t = row-turn (s .pre .0 .0) f (a .depth) (a .nodes) (l .k) (e .result) (s .pre .0 .2) (e .ensures) (search needs) (l .inv .1 (search needs)) in (
+    let t = row-turn (shows (s .pre .0 .0)) f (a .depth) (a .nodes) (l .k) (e .result) (s .pre .0 .2) (e .ensures) (search needs) (l .inv .1 (search needs)) in (
       (s .pre .0 .0, s .pre .0 .1),
       (
         search needs,
-        fits (nodeIn f (planOf T (a .titles .now)) (l .k)) (edgesIn f T (l .k) (backward T (l .k) (e .result) (depthIn T (l .k) + 1)) ++ rowFrom f T (a .titles .now) (a .depth) (e .result))
+        fits (nodeIn f (planShown (a .given) (a .standin .now) T (a .titles .now)) (l .k)) (edgesIn f T (l .k) (backward (a .given) T (l .k) (e .result) (depthIn T (l .k) + 1)) ++ rowFrom f T (planShown (a .given) (a .standin .now) T (a .titles .now)) (a .depth) (e .result))
             (l .inv .2) t (s .pre .1),
       ),
     )
 
 edges-requires : tie.Need-edges-requires Inv-loop μ-loop
 edges-requires c κs =
-    let s = c .before .before .before .before .before .before .before .before .before .before .before .before in
+    let s = c .before .before .before .before .before .before .before .before .before .before .before .before .before in
     let a = s .args in
     let f = formOf (a .fenced) in
     let l = c .before .before .before .before .before .before .before .loop in
     let e = c .before .before .before .before .before .next-cell2 in
     let T = a .table .now in
-    let ed = edgesIn f T (l .k) (backward T (l .k) (e .result) (depthIn T (l .k) + 1)) in
-    let more = rowFrom f T (a .titles .now) (a .depth) (e .result) in
-    let t = row-turn (s .pre .0 .0) f (a .depth) (a .nodes) (l .k) (e .result) (s .pre .0 .2) (e .ensures) (search needs) (l .inv .1 (search needs)) in
-    let r = reached (s .pre .0 .0) f (a .depth) (a .nodes) (l .k + 1) (e .result) (s .pre .0 .2) (e .ensures) (search needs) in (
+    let ed = edgesIn f T (l .k) (backward (a .given) T (l .k) (e .result) (depthIn T (l .k) + 1)) in
+    let more = rowFrom f T (planShown (a .given) (a .standin .now) T (a .titles .now)) (a .depth) (e .result) in
+    let t = row-turn (shows (s .pre .0 .0)) f (a .depth) (a .nodes) (l .k) (e .result) (s .pre .0 .2) (e .ensures) (search needs) (l .inv .1 (search needs)) in
+    let r = reached (shows (s .pre .0 .0)) f (a .depth) (a .nodes) (l .k + 1) (e .result) (s .pre .0 .2) (e .ensures) (search needs) in (
       s .pre .0 .1,
       (
         (omega (arith, r .low), omega (arith, r .high, s .pre .0 .2)),
-        fits ed more (step (nodeIn f (planOf T (a .titles .now)) (l .k)) (ed ++ more) (l .inv .2) t (c .before .before .before .node .ensures)) refl (s .pre .1),
+        fits ed more (step (nodeIn f (planShown (a .given) (a .standin .now) T (a .titles .now)) (l .k)) (ed ++ more) (l .inv .2) t (c .before .before .before .node .ensures)) refl (s .pre .1),
       ),
     )
 
 loop-less : tie.Need-loop-less Inv-loop μ-loop
 loop-less c =
-    let s = c .before .before .before .before .before .before .before .before .before .before .before .before .before .before .before in
+    let s = c .before .before .before .before .before .before .before .before .before .before .before .before .before .before .before .before in
     let a = s .args in
     let f = formOf (a .fenced) in
     let l = c .before .before .before .before .before .before .before .before .before .before .loop in
     let e = c .before .before .before .before .before .before .before .before .next-cell2 in
     let T = a .table .now in
-    let ed = edgesIn f T (l .k) (backward T (l .k) (e .result) (depthIn T (l .k) + 1)) in
-    let more = rowFrom f T (a .titles .now) (a .depth) (e .result) in
-    let t = row-turn (s .pre .0 .0) f (a .depth) (a .nodes) (l .k) (e .result) (s .pre .0 .2) (e .ensures) (search needs) (l .inv .1 (search needs)) in
-    let r = reached (s .pre .0 .0) f (a .depth) (a .nodes) (l .k + 1) (e .result) (s .pre .0 .2) (e .ensures) (search needs) in omega (arith, r .low, r .high)
+    let ed = edgesIn f T (l .k) (backward (a .given) T (l .k) (e .result) (depthIn T (l .k) + 1)) in
+    let more = rowFrom f T (planShown (a .given) (a .standin .now) T (a .titles .now)) (a .depth) (e .result) in
+    let t = row-turn (shows (s .pre .0 .0)) f (a .depth) (a .nodes) (l .k) (e .result) (s .pre .0 .2) (e .ensures) (search needs) (l .inv .1 (search needs)) in
+    let r = reached (shows (s .pre .0 .0)) f (a .depth) (a .nodes) (l .k + 1) (e .result) (s .pre .0 .2) (e .ensures) (search needs) in omega (arith, r .low, r .high)
 
 loop-again : tie.Need-loop-again Inv-loop μ-loop
 loop-again c =
-    let s = c .before .before .before .before .before .before .before .before .before .before .before .before .before .before .before in
+    let s = c .before .before .before .before .before .before .before .before .before .before .before .before .before .before .before .before in
     let a = s .args in
     let f = formOf (a .fenced) in
     let l = c .before .before .before .before .before .before .before .before .before .before .loop in
     let e = c .before .before .before .before .before .before .before .before .next-cell2 in
     let T = a .table .now in
-    let ed = edgesIn f T (l .k) (backward T (l .k) (e .result) (depthIn T (l .k) + 1)) in
-    let more = rowFrom f T (a .titles .now) (a .depth) (e .result) in
-    let t = row-turn (s .pre .0 .0) f (a .depth) (a .nodes) (l .k) (e .result) (s .pre .0 .2) (e .ensures) (search needs) (l .inv .1 (search needs)) in
-    let r = reached (s .pre .0 .0) f (a .depth) (a .nodes) (l .k + 1) (e .result) (s .pre .0 .2) (e .ensures) (search needs) in (
+    let ed = edgesIn f T (l .k) (backward (a .given) T (l .k) (e .result) (depthIn T (l .k) + 1)) in
+    let more = rowFrom f T (planShown (a .given) (a .standin .now) T (a .titles .now)) (a .depth) (e .result) in
+    let t = row-turn (shows (s .pre .0 .0)) f (a .depth) (a .nodes) (l .k) (e .result) (s .pre .0 .2) (e .ensures) (search needs) (l .inv .1 (search needs)) in
+    let r = reached (shows (s .pre .0 .0)) f (a .depth) (a .nodes) (l .k + 1) (e .result) (s .pre .0 .2) (e .ensures) (search needs) in (
       r .high,
       r .has,
-      step ed more (step (nodeIn f (planOf T (a .titles .now)) (l .k)) (ed ++ more) (l .inv .2) t (c .before .before .before .before .before .before .node .ensures)) refl (c .before .before .edges .ensures),
+      step ed more (step (nodeIn f (planShown (a .given) (a .standin .now) T (a .titles .now)) (l .k)) (ed ++ more) (l .inv .2) t (c .before .before .before .before .before .before .node .ensures)) refl (c .before .before .edges .ensures),
     )
 
 same-length : tie.Need-same-length Inv-loop μ-loop
@@ -111,10 +113,10 @@ same-length c = search needs
 
 returns : tie.Need-returns Inv-loop μ-loop
 returns c =
-    let s = c .before .before .before .before .before .before in
+    let s = c .before .before .before .before .before .before .before in
     let a = s .args in
     let l = c .before .loop in
-    end (l .inv .2) (row-out (s .pre .0 .0) (formOf (a .fenced)) (a .depth) (a .nodes) (l .k) (s .pre .0 .2) (l .inv .0) (search needs))
+    end (l .inv .2) (row-out (shows (s .pre .0 .0)) (formOf (a .fenced)) (a .depth) (a .nodes) (l .k) (s .pre .0 .2) (l .inv .0) (search needs))
 
 pub row-spec : {M : Type 1} → statement M
 row-spec =

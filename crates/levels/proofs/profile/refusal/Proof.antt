@@ -1,9 +1,9 @@
--- One of the first six is the answer, or what 17 leaves.
+-- One of the first six is the answer, or what 12 and 17 leave.
 use mathlib.Core.Path.{sym, _∙_}
-use mathlib.Core.Bool.{true}
-use Rattle.rules.specs.Look.{allowedIn}
+use Rattle.rules.specs.Standin.{standinOf}
+use Rattle.rules.specs.declared.Answer.{Answer}
 use Rattle.levels.proofs.Accepted.{checked-accepted}
-use Rattle.levels.proofs.Refused.{said, plan-early, plan-later}
+use Rattle.levels.proofs.Refused.{said, all-early, all-later}
 use borrow.Author.Needs.{needs}
 use Rattle.levels.proofs.profile.refusal.Statement.{statement}
 use Rattle.levels.proofs.profile.refusal.Tie as tie
@@ -14,24 +14,25 @@ first-refusal-requires c κs = search needs
 done-requires : tie.Need-done-requires
 done-requires c κs = search needs
 
-later-refusal-requires : tie.Need-later-refusal-requires
-later-refusal-requires c κs =
-    let s = c .before .before .before .before .before .args in
-    checked-accepted true (s .table .now) (s .titles .now) (said (c .before .before .first-refusal .ensures) (c .before .done .ensures) (search needs))
+shown-refusal-requires : tie.Need-shown-refusal-requires
+shown-refusal-requires c κs =
+    let s = c .before .before .before .before .before .before .args in
+    checked-accepted (s .some) (s .table .now) (s .titles .now) (said (c .before .before .first-refusal .ensures) (c .before .done .ensures) (search needs))
 
 returns : tie.Need-returns
 returns c =
-    let s = c .before .before .before .before .before .before .args in
-    c .later-refusal .ensures
-    ∙ sym (plan-later (allowedIn (s .profile)) (s .table .now) (s .titles .now)
+    let s = c .before .before .before .before .before .before .before .args in
+    c .shown-refusal .ensures
+    ∙ sym (all-later (s .some) (s .profile) (standinOf (s .given) (s .standin .now)) (s .table .now) (s .titles .now) (Answer.Done 0)
     (said (c .before .before .before .first-refusal .ensures) (c .before .before .done .ensures) (search needs)))
 
 returns-2 : tie.Need-returns-2
 returns-2 c =
-    let s = c .before .before .before .before .before .args in
+    let s = c .before .before .before .before .before .before .args in
     c .before .before .first-refusal .ensures
-    ∙ sym (plan-early (allowedIn (s .profile)) (s .table .now) (s .titles .now)
+    ∙ sym (all-early (s .some) (s .profile) (standinOf (s .given) (s .standin .now)) (s .table .now) (s .titles .now) (Answer.Done 0)
     (said (c .before .before .first-refusal .ensures) (c .before .done .ensures) (search needs)))
 
 pub refusal-spec : {M : Type 1} → statement M
-refusal-spec = tie.close (tie.spec first-refusal-requires done-requires later-refusal-requires returns returns-2)
+refusal-spec =
+    tie.close (tie.spec first-refusal-requires done-requires shown-refusal-requires returns returns-2)
