@@ -15,10 +15,11 @@ try: import rules
 except ImportError: rules = None
 
 TEXT, GRAPH, FENCED, READ, FILE = 0, 1, 2, 3, 4
+WHY = 6  # (vi)
 # a look: the crate's, and what is added to it: (iv) a line's length is its code points, (xiii) plain marks, (i) a stand-in is given
 BYTES, FITTED, PLAIN, GIVEN = 0, 1, 2, 4
-LOOKS = {TEXT: tuple(range(8)), GRAPH: (BYTES, GIVEN), FENCED: (BYTES, GIVEN), READ: tuple(range(4)), FILE: (BYTES,)}  # that a kind of request takes
-STANDIN, NOT_PLAIN = 12, 17  # (i) a stand-in that may not stand in; (xiii) a title that does not keep to the bytes of the plain profile
+LOOKS = {TEXT: tuple(range(8)), GRAPH: (BYTES, GIVEN), FENCED: (BYTES, GIVEN), READ: tuple(range(4)), FILE: (BYTES,), WHY: (BYTES,)}  # that a kind of request takes
+STANDIN, NOCELL, NOT_PLAIN = 12, 13, 17  # (i) a stand-in that may not stand in; (vi) no cell stands there; (xiii) a title that does not keep to the bytes of the plain profile
 CELL, BYTE, PRIME = 0xA5A5A5A5, 0xA5, 4294967291
 MOST_LENT_CELLS, MOST_OUT, MOST_TITLES, MOST_ENTRIES, MOST_PAYLOAD, MOST_STANDIN = 262144, 524288, 262144, 1024, 524288, 4096
 
@@ -109,6 +110,9 @@ def fenced(plan):
 def head(kind, lent1, lent2, lent3, size, look=BYTES): return struct.pack('<5I', kind + 256 * look, lent1, lent2, lent3, size)
 
 
+def packed(table, titles): return struct.pack('<I', len(titles)) + titles + struct.pack('<%dI' % len(table), *table)
+
+
 class Request:
     """One request. A plan's payload is made of its stand-in, if there is one, its table and its title bytes; a file's is the file."""
 
@@ -134,7 +138,7 @@ class Request:
 
     def sent(self):
         if self.kind == FILE: payload = self.file
-        else: payload = struct.pack('<I', len(self.titles)) + self.titles + struct.pack('<%dI' % len(self.table), *self.table)
+        else: payload = packed(self.table, self.titles)
         if self.standin is not None: payload = struct.pack('<I', len(self.standin)) + self.standin + payload
         return head(self.kind, self.lent1, self.lent2, 0, len(payload), self.look) + payload
 
@@ -204,6 +208,47 @@ class Picture:
         if len(table) > self.lent2: return rules.ROOM, len(table), cells, [], b''
         if len(titles) > self.lent3: return rules.ROOM, len(titles), cells, [], b''
         return rules.DONE, len(plan), cells, table, titles
+
+
+class Why:
+    """(vi) The question why the cell in a row and a column is drawn where it is, judged by what each answer means, not by a search."""
+    plan = form = None
+    look = BYTES
+
+    def __init__(self, row, column, table, titles): self.row, self.column, self.table, self.titles = row, column, table, titles
+
+    def sent(self):
+        payload = packed(self.table, self.titles)
+        return head(WHY, self.row, self.column, 0, len(payload)) + payload
+
+    def within(self): return len(self.titles) <= MOST_TITLES and len(self.table) <= MOST_ENTRIES
+
+    def line(self, crate): return '%d %d %d %d %d 0 0 0' % self.settled()
+
+    def settled(self):
+        """Number, second number, case, and the nodes that are named."""
+        no = check(self.table, self.titles, False)
+        if no: return *no, 0, 0, 0
+        plan = rules.plan_of(self.table, self.titles)
+        v = view(plan)
+        for k, (depth, title) in enumerate(plan):
+            if title and (depth, v.column[k]) == (self.row, self.column): return rules.DONE, 0, *reason(plan, v, k)
+        return NOCELL, 0, 0, 0, 0
+
+
+def reason(plan, v, k):
+    """What is true of the cell of node k: it is under those whose drawn children it is one of."""
+    depth, column = plan[k][0], v.column[k]
+    under = [m for m, (d, t) in enumerate(plan) if t and d + 1 == depth and column in v.children(d, v.column[m])]
+    true = [(0, k, 0)] if depth == 0 else []
+    for q in range(k):
+        if plan[q][0] + 1 != depth or any(d <= plan[q][0] for d, _ in plan[q + 1:k]): continue
+        # q is the true parent
+        untitled = not plan[q][1]
+        left = [m for m, (d, t) in enumerate(plan) if t and d == plan[q][0] and v.column[m] <= column]
+        true += [(1, q, 0)] * (q in under) + [(2, m, q) for m in under if untitled] + [(3, 0, q)] * (untitled and not left)
+    one, = true  # exactly one is
+    return one
 
 
 def left(begun, lent, fill):
@@ -318,6 +363,16 @@ EDGES = [b'\x00', b'\t', b'\n', b'\x0b', b'\r', b'\x1f', b' ', b'!', b'}', b'~',
 # and what may not: none, too long, not valid
 STANDINS = [b'?', b'(no title)', b'\n', b' ', b'  ', b'a\nb\n', b'\n\n.', '—'.encode(), 'χωρίς τίτλο'.encode(), '漢\n𝄞'.encode(), '╭─╮'.encode(), b'+---+\n|   |', b'"\\', b'x' * 1024, b'\n' * 1024]
 BAD_STANDINS = [b'', b'x' * 1025, b'\n' * 4096, b'\xff', b'ok\xc3', b'\xed\xa0\x80', b'\x80', b'\xc0\x80']
+
+
+def forests(most):
+    """Every plan of up to so many nodes, with each subset of its titles left out."""
+    for n in range(1, most + 1):
+        for depths in itertools.product(*(range(k + 1) for k in range(n))):
+            if any(b > a + 1 for a, b in zip(depths, depths[1:])): continue
+            for titled in itertools.product((b'', b'a'), repeat=n): yield list(zip(depths, titled))
+
+
 LETTERS = list('ab c0 │─╭╮╰╯┴┬┌π') + ['é', '"', '\\', '\n', '\n', '\u3000', '漢', '𝄞', '\U0010ffff', '\r', '\t', '\x00', '\x7f', '-', '+', '|', '\u00a0', '\u2028']
 PRINTED = list('ab c01 +-|+-|+~"\\') + ['\n', '\n']
 SPREAD = list('αβλπσΩ09a ') + ['é', 'e\u0301', 'ö', 'o\u0308', '\u0301', '\n', '\n', '\u3000', '漢', '│', '╮', '─', '𝄞', '𐌰', '😀']

@@ -1,4 +1,4 @@
-/* Girthladder for C and C++: query plans as trees of boxes and as graphs, and such trees read back.
+/* Girthladder for C and C++: query plans as trees of boxes and as graphs, such trees read back, and why a step is drawn where it is.
  *
  * A plan is a table and the bytes of its titles. The table has three uint32_t for each node, nodes depth first:
  *
@@ -59,7 +59,8 @@ enum girthladder_number {
     GIRTHLADDER_LARGE = 7,  /* over 1,048,576 cells, drawing and reading: 0 */
     GIRTHLADDER_CANVAS = 8, /* the canvas is too short, drawing and reading: cells needed */
     GIRTHLADDER_ROOM = 9,   /* the output is too short: bytes needed; reading: see there */
-    GIRTHLADDER_UNDRAWN = 10 /* no ordinary plan is drawn as this picture, reading only: 0 */
+    GIRTHLADDER_UNDRAWN = 10, /* no ordinary plan is drawn as this picture, reading only: 0 */
+    GIRTHLADDER_NOCELL = 13 /* no cell stands there, girthladder_why only: 0 */
 };
 
 /* How a drawing looks, for the functions that end in `_as`: a sum of these switches. 0 is the crate's look, that of girthladder_text.
@@ -199,6 +200,32 @@ void girthladder_read_as(const uint8_t *picture, size_t picture_length,
                          uint32_t *table, size_t table_length,
                          uint8_t *titles, size_t titles_length,
                          struct girthladder_answer *answer);
+
+/* What girthladder_why says of a cell. p and q are nodes, counted from 0; a node that is not named is 0. */
+enum girthladder_case {
+    GIRTHLADDER_ROOT = 0,    /* it is a root, node p */
+    GIRTHLADDER_UNDER = 1,   /* it is drawn under its parent, node p */
+    GIRTHLADDER_ADOPTED = 2, /* it is drawn under node p, though its parent, node q, has no title */
+    GIRTHLADDER_LOOSE = 3    /* it has no line upward: its parent, node q, has no title, and no titled cell of q's row stands at or left of
+                                its own column */
+};
+
+struct girthladder_reason {
+    uint64_t number; /* one of enum girthladder_number */
+    uint64_t second; /* its second number; of DONE 0 */
+    uint64_t which;  /* of DONE, one of enum girthladder_case; else 0 */
+    uint64_t p;      /* the nodes that are named */
+    uint64_t q;
+};
+
+/* Why is this step drawn here? Row and column are counted from 0, as a drawing shows them at its margins; any number may be asked for.
+ *   DONE    what is true of the cell that stands there: exactly one of the four is.
+ *   NOCELL  no cell stands there: none does where a node has no title, and none at all if there is no node.
+ * Before these, in this order: RAGGED, MANY, DEPTH, TITLE, UTF8. */
+void girthladder_why(const uint32_t *table, size_t table_length,
+                     const uint8_t *titles, size_t titles_length,
+                     uint32_t row, uint32_t column,
+                     struct girthladder_reason *answer);
 
 #ifdef __cplusplus
 }

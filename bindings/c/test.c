@@ -468,6 +468,37 @@ static void each_byte(void) {
     }
 }
 
+/* The five numbers of a question, which lends no memory but theirs. */
+static int says(const struct plan *p, uint32_t row, uint32_t column, uint64_t number, uint64_t second, uint64_t which, uint64_t above, uint64_t parent) {
+    int so = 1;
+    for (int null = 0; null < 2; null++) {
+        struct lent five = lend(sizeof(struct girthladder_reason));
+        struct girthladder_reason *a = (struct girthladder_reason *)five.at;
+        girthladder_why(pointer(&p->table, null), p->table.size / 4, pointer(&p->titles, null), p->titles.size, row, column, a);
+        so = so && marked(&five, sizeof *a) && a->number == number && a->second == second && a->which == which && a->p == above && a->q == parent;
+        give_back(&five);
+    }
+    return so;
+}
+
+/* A row of A and its children B and one without a title, beneath which C hangs; then a root without a title above D, and a root E. */
+static void each_reason(void) {
+    const uint32_t table[] = {0, 0, 1, 1, 1, 1, 1, 2, 0, 2, 2, 1, 0, 3, 0, 1, 3, 1, 0, 4, 1}, first[] = {0, 0, 0, 1, 0, 1};
+    const uint32_t jump[] = {0, 0, 1, 2, 0, 1}, outside[] = {0, 0, 9};
+    struct plan p = plan(table, 21, "ABCDE", 5), loose = plan(first, 6, "B", 1), none = plan(NULL, 0, NULL, 0);
+    struct plan ragged = plan(table, 20, "ABCDE", 5), deep = plan(jump, 6, "A", 1), far = plan(outside, 3, "A", 1), bad = plan(outside, 3, "A\xFF" "CDEFGHI", 9);
+    CHECK(says(&p, 0, 0, GIRTHLADDER_DONE, 0, GIRTHLADDER_ROOT, 0, 0) && says(&p, 0, 3, GIRTHLADDER_DONE, 0, GIRTHLADDER_ROOT, 6, 0));
+    CHECK(says(&p, 1, 0, GIRTHLADDER_DONE, 0, GIRTHLADDER_UNDER, 0, 0));
+    CHECK(says(&p, 2, 1, GIRTHLADDER_DONE, 0, GIRTHLADDER_ADOPTED, 1, 2) && says(&p, 1, 2, GIRTHLADDER_DONE, 0, GIRTHLADDER_ADOPTED, 0, 4));
+    CHECK(says(&loose, 1, 0, GIRTHLADDER_DONE, 0, GIRTHLADDER_LOOSE, 0, 0));
+    CHECK(says(&p, 1, 1, GIRTHLADDER_NOCELL, 0, 0, 0, 0) && says(&p, 0, 2, GIRTHLADDER_NOCELL, 0, 0, 0, 0) && says(&loose, 0, 0, GIRTHLADDER_NOCELL, 0, 0, 0, 0));
+    CHECK(says(&p, 0xFFFFFFFF, 0xFFFFFFFF, GIRTHLADDER_NOCELL, 0, 0, 0, 0) && says(&none, 0, 0, GIRTHLADDER_NOCELL, 0, 0, 0, 0));
+    CHECK(says(&ragged, 0, 0, GIRTHLADDER_RAGGED, 0, 0, 0, 0) && says(&deep, 0, 0, GIRTHLADDER_DEPTH, 1, 0, 0, 0));
+    CHECK(says(&far, 0, 0, GIRTHLADDER_TITLE, 0, 0, 0, 0) && says(&bad, 9, 9, GIRTHLADDER_UTF8, 0, 0, 0, 0));
+    struct plan *all[] = {&p, &loose, &none, &ragged, &deep, &far, &bad};
+    for (size_t k = 0; k < sizeof all / sizeof *all; k++) forget(all[k]);
+}
+
 int main(void) {
     const uint32_t table[] = {0, 0, 1, 1, 1, 1, 1, 2, 1}, untitled[] = {0, 0, 1, 1, 1, 0, 1, 1, 0};
     struct plan p = plan(table, 9, "abc", 3), empty = plan(NULL, 0, NULL, 0), lost = plan(untitled, 9, "abc", 3);
@@ -496,6 +527,7 @@ int main(void) {
     each_standin();
     each_refusal();
     each_reading();
+    each_reason();
     forget(&p);
     forget(&empty);
     forget(&lost);

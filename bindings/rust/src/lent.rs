@@ -1,7 +1,7 @@
 //! The same on lent memory: nothing is allocated. A table has three numbers a node, as [`Plan::parts`](crate::Plan::parts) gives them;
 //! any table, any titles and any lengths are taken.
 
-use crate::{Look, Refusal};
+use crate::{Look, Reason, Refusal};
 
 // girthladder.h. An empty slice's pointer is never read through.
 extern "C" {
@@ -54,6 +54,15 @@ extern "C" {
         table_length: usize,
         titles: *mut u8,
         titles_length: usize,
+        answer: *mut [u64; 5],
+    );
+    fn girthladder_why(
+        table: *const u32,
+        table_length: usize,
+        titles: *const u8,
+        titles_length: usize,
+        row: u32,
+        column: u32,
         answer: *mut [u64; 5],
     );
 }
@@ -184,6 +193,18 @@ pub fn read_as(picture: &[u8], look: Look, canvas: &mut [u32], table: &mut [u32]
         )
     };
     nodes(five)
+}
+
+/// Why the cell in this row and column is drawn where it is.
+pub fn why(table: &[u32], titles: &[u8], row: u32, column: u32) -> Result<Reason, Refusal> {
+    let mut five = [0; 5];
+    // SAFETY: two slices, lent for the call by pointer and length, and five numbers.
+    unsafe { girthladder_why(table.as_ptr(), table.len(), titles.as_ptr(), titles.len(), row, column, &mut five) };
+    match five[0] {
+        0 => Ok(Reason::of(five[2], five[3], five[4], table, row, column)),
+        13 => Err(Refusal::NoCell { row, column }),
+        number => Err(Refusal::of(number, five[1], table, titles, &[])),
+    }
 }
 
 // The nodes that were read, or the refusal.

@@ -31,15 +31,19 @@
 //! let text = girthladder::draw_with(&plan, Look::new(), Some("(no title)")).unwrap();
 //! assert!(text.contains("│ (no title) │"));
 //! ```
+//!
+//! [`why`] says of a step in the drawing why it is drawn where it is.
 
 mod look;
 mod plan;
+mod reason;
 mod refusal;
 
 pub mod lent;
 
 pub use look::Look;
 pub use plan::Plan;
+pub use reason::Reason;
 pub use refusal::Refusal;
 
 /// The most nodes of a plan.
@@ -96,6 +100,19 @@ pub fn read(picture: impl AsRef<[u8]>) -> Result<Plan, Refusal> {
 /// where titles are ASCII; then it is the same plan. One in the other marks is `Undrawn`.
 pub fn read_as(picture: impl AsRef<[u8]>, look: Look) -> Result<Plan, Refusal> {
     found(picture.as_ref(), |picture, canvas, table, titles| lent::read_as(picture, look, canvas, table, titles))
+}
+
+/// Why the step in this row and column, as a drawing shows them at its margins, is drawn where it is.
+///
+/// ```
+/// use girthladder::Plan;
+/// let plan: Plan = [(0, "warn"), (1, "join"), (2, "gauge"), (2, ""), (3, "weir")].into_iter().collect();
+/// let reason = girthladder::why(&plan, 3, 1).unwrap();
+/// assert_eq!(reason.to_string(), "node 4 is drawn under node 2, though its parent, node 3, has no title");
+/// ```
+pub fn why(plan: &Plan, row: u32, column: u32) -> Result<Reason, Refusal> {
+    let (table, titles) = plan.parts();
+    lent::why(table, titles, row, column)
 }
 
 // A drawing on as many cells as it needs.

@@ -1,4 +1,4 @@
-//! Why a plan was not drawn, or a picture not read, in words.
+//! Why a plan was not drawn, a picture not read or a question not answered, in words.
 
 use std::fmt;
 
@@ -35,6 +35,8 @@ pub enum Refusal {
     Short { needed: usize },
     /// 10: no ordinary plan is drawn as this picture; reading only.
     Undrawn,
+    /// 13: no cell stands in this row and column; [`why`](crate::why) only.
+    NoCell { row: u32, column: u32 },
 }
 
 impl Refusal {
@@ -55,6 +57,7 @@ impl Refusal {
             Refusal::NotText => 6,
             Refusal::Short { .. } => 9,
             Refusal::Undrawn => 10,
+            Refusal::NoCell { .. } => 13,
         }
     }
 
@@ -122,6 +125,7 @@ impl fmt::Display for Refusal {
             Refusal::NotText => write!(f, "the picture is not valid UTF-8"),
             Refusal::Short { needed } => write!(f, "the table or the titles are too short: {needed} entries, or else bytes, are needed"),
             Refusal::Undrawn => write!(f, "no ordinary plan is drawn as this picture"),
+            Refusal::NoCell { row, column } => write!(f, "no cell stands in row {row} and column {column}"),
         }
     }
 }

@@ -1,5 +1,5 @@
-//! Document 01's example and every refusal, through `draw`, `dot`, `fenced`, `read` and on lent memory with marked numbers around each buffer.
-use girthladder::{dot, dot_with, draw, draw_as, draw_with, fenced, fenced_with, lent, read, read_as, Look, Plan, Refusal};
+//! Document 01's example and every refusal, through `draw`, `dot`, `fenced`, `read`, `why` and on lent memory with marked numbers around each buffer.
+use girthladder::{dot, dot_with, draw, draw_as, draw_with, fenced, fenced_with, lent, read, read_as, why, Look, Plan, Reason, Refusal};
 
 const PICTURE: &str = "        0      1
    ┌──────────────
@@ -314,6 +314,33 @@ fn reading_on_lent_memory() {
             assert_eq!((&table[MARGIN..MARGIN + 9], &titles[MARGIN..MARGIN + 3]), (&TABLE[..], &b"abc"[..]));
         }
     }
+}
+
+#[test]
+fn why_a_step_is_drawn_here() {
+    let lake = plan(&[(0, "warn"), (1, "join"), (2, "gauge"), (2, ""), (3, "weir")]);
+    let said = |row, column| why(&lake, row, column).map(|reason| reason.to_string());
+    assert_eq!(said(0, 0).unwrap(), "node 0 is a root");
+    assert_eq!(said(2, 0).unwrap(), "node 2 is drawn under its parent, node 1");
+    assert_eq!(said(3, 1).unwrap(), "node 4 is drawn under node 2, though its parent, node 3, has no title");
+    assert_eq!(said(2, 1), Err(Refusal::NoCell { row: 2, column: 1 }));
+    assert_eq!(said(2, 1).unwrap_err().to_string(), "no cell stands in row 2 and column 1");
+    // several roots, the first without a title
+    let sheet = plan(&[(0, ""), (1, "a"), (0, "b"), (0, ""), (1, "c")]);
+    assert_eq!(why(&sheet, 1, 0), Ok(Reason::Loose { node: 1, parent: 0 }));
+    assert_eq!(
+        why(&sheet, 1, 0).unwrap().to_string(),
+        "node 1 has no line upward: its parent, node 0, has no title, and no step with a title stands in the parent's row at or left of its column"
+    );
+    assert_eq!(why(&sheet, 0, 1), Ok(Reason::Root { node: 2 }));
+    assert_eq!(why(&sheet, 1, 2), Ok(Reason::Adopted { node: 4, above: 2, parent: 3 }));
+    // no node, and what is refused; the refusal comes before the cell
+    assert_eq!(why(&Plan::new(), 0, 0).unwrap_err().number(), 13);
+    assert_eq!(why(&example(), u32::MAX, u32::MAX).unwrap_err().number(), 13);
+    assert_eq!(why(&plan(&[(0, "a"), (2, "b")]), 9, 9).unwrap_err().number(), 4);
+    assert_eq!(lent::why(&TABLE[..8], b"abc", 0, 0), Err(Refusal::Ragged { entries: 8 }));
+    assert_eq!(lent::why(&TABLE, b"ab", 0, 0).unwrap_err().number(), 5);
+    assert_eq!(lent::why(&TABLE, b"ab\xFF", 9, 9), Err(Refusal::Utf8 { node: 2 }));
 }
 
 // A stand-in for polars-plan's TreeFmtNode, handed over as the README shows.

@@ -32,6 +32,16 @@ pub fn print_reading(r: Reading) {
     console::print(b"0 0 0 ");
 }
 
+// The five numbers of a question's answer; no memory was lent.
+pub fn print_five(five: [u64; 5]) {
+    print_number(five[0], 32);
+    print_number(five[1], 32);
+    print_number(five[2], 32);
+    print_number(five[3], 32);
+    print_number(five[4], 32);
+    console::print(b"0 0 0\n");
+}
+
 // The sums of the lent memory, which end the line.
 pub fn print_sums(a: u64, b: u64, c: u64) {
     print_number(a, 32);

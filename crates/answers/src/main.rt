@@ -1,7 +1,10 @@
 // Answers many requests in one run, for tests: the numbers of each answer, and a checksum of all lent memory.
 mod lent;
 mod line;
+mod question;
 
+ghost use Prim.Native.Nat.{_≤_};
+ghost use lib.ListN.{length};
 use plan_file::word;
 use plan_file::words;
 use rules::Answer;
@@ -10,7 +13,7 @@ use rules::Reading;
 use text::wide;
 
 // Ends the run at a request that is none.
-fn bad() -> bool {
+pub fn bad() -> bool {
     console::print(b"bad\n");
     false
 }
@@ -25,6 +28,9 @@ fn known(kind: u32, look: u32) -> bool {
         return look < 4;
     }
     if kind == 4 {
+        return look == 0;
+    }
+    if kind == 6 {
         return look == 0;
     }
     if kind < 3 {
@@ -86,7 +92,41 @@ fn draw_plan<'a>(
     line::print_graph(graph(kind, look, table, titles, standin, out));
 }
 
-// The titles and the table of a payload: it is long enough, and has whole entries, as many as fit.
+// Where the titles of a payload's plan end, and how many entries its table has.
+pub struct Plan {
+    pub end: usize,
+    pub entries: usize,
+}
+
+// Those of a payload that is long enough and has whole entries, at most as many as this; else 0 and 0.
+pub fn plan_in(payload: &[u8], most: usize) -> Plan
+    ensures { λ r. ⌜ (r .end ≤ length (now (payload .entry))) × (r .entries ≤ most) ⌝ }
+{
+    let none = Plan { end: 0, entries: 0 };
+    let size = payload.len();
+    if size < 4 {
+        return none;
+    }
+    let bytes = wide(word(payload, 0));
+    if 262144 < bytes {
+        return none;
+    }
+    if size - 4 < bytes {
+        return none;
+    }
+    let end = bytes + 4;
+    let left = size - end;
+    if left % 4 != 0 {
+        return none;
+    }
+    let entries = left / 4;
+    if most < entries {
+        return none;
+    }
+    Plan { end, entries }
+}
+
+// The titles and the table of a payload.
 fn plan_request<'a>(
     kind: u32,
     look: u32,
@@ -96,24 +136,10 @@ fn plan_request<'a>(
     cells: &mut [u32],
     out: &mut [u8],
 ) -> bool {
-    let size = payload.len();
-    if size < 4 {
-        return false;
-    }
-    let bytes = wide(word(payload, 0));
-    if 262144 < bytes {
-        return false;
-    }
-    if size - 4 < bytes {
-        return false;
-    }
-    let end = bytes + 4;
-    let left = size - end;
-    if left % 4 != 0 {
-        return false;
-    }
-    let n = left / 4;
-    if table.len() < n {
+    let p = plan_in(payload, table.len());
+    let end = p.end;
+    let n = p.entries;
+    if end < 4 {
         return false;
     }
     words(payload, end, &mut table[..n]);
@@ -322,7 +348,7 @@ fn reading(
     )
 }
 
-// Answers a request whose head was read: kind 3 has a picture to read. (op = kind + 256 × look.)
+// Answers a request whose head was read: kind 3 has a picture to read, kind 6 is a question of a plan. (op = kind + 256 × look.)
 fn asked(
     head: &[u8],
     input: &mut [u8],
@@ -338,6 +364,9 @@ fn asked(
     }
     if kind == 3 {
         return reading(look, head, input, table, cells, out);
+    }
+    if kind == 6 {
+        return question::request(head, input, table);
     }
     request(kind, look, head, input, table, cells, out)
 }

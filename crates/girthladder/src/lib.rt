@@ -1,4 +1,6 @@
-// The door for C and Rust: drawing, graphs and reading on lent memory, the answer as five numbers.
+// The door for C and Rust: drawing, graphs and reading on lent memory, and questions of a plan, the answer as five numbers.
+mod question;
+
 ghost use mathlib.Core.Path.{_≡_};
 ghost use lib.ListN.{length};
 ghost use Rattle.rules.specs.Look.{base};
@@ -7,6 +9,7 @@ ghost use Rattle.rules.specs.Graph.{bare, fenced};
 ghost use Rattle.rules.specs.Answers.{drawing, canvasAfter, outAfter, graphAnswer, graphAfter};
 ghost use Rattle.rules.specs.Switches.{givenOf, lookIn};
 ghost use Rattle.girthladder.specs.Five.{drawingFive, graphFive, readingFive, ReadFive};
+pub use question::girthladder_why;
 use rules::Answer;
 use rules::Drawing;
 use rules::Reading;

@@ -12,6 +12,7 @@ pub use refuse::bad_depth;
 pub use refuse::first_refusal;
 pub use titles::shown_title;
 pub use titles::title;
+pub use walk::in_row;
 pub use walk::next_cell;
 pub use walk::previous_cell;
 pub use walk::rows;
