@@ -37,6 +37,10 @@ extern "C" {
         picture: *const u8, picture_length: usize, look: u32, canvas: *mut u32, canvas_length: usize,
         table: *mut u32, table_length: usize, titles: *mut u8, titles_length: usize, answer: *mut [u64; 5],
     );
+    fn girthladder_fits(
+        table: *const u32, table_length: usize, titles: *const u8, titles_length: usize,
+        columns: u32, rows: u32, answer: *mut [u64; 5],
+    );
 }
 
 type Pairs = Vec<(usize, String)>;
@@ -437,6 +441,42 @@ fn others() -> [Other; 2] {
     ]
 }
 
+// ---- does it fit the screen
+
+// Whether the plan fits so many columns, and the titles read.
+fn fits(lent: &Lent, columns: u32) -> (bool, u64) {
+    let mut five = [0; 5];
+    unsafe { girthladder_fits(lent.table.as_ptr(), lent.table.len(), lent.titles.as_ptr(), lent.titles.len(), columns, u32::MAX, &mut five) };
+    assert!(five[0] == 0);
+    (five[2] == 1, five[3])
+}
+
+// A plan that is too wide by its first title, beside the same plan measured whole for a panel that it fits.
+fn panels(rounds: usize) {
+    println!("\nDoes it fit the screen: turned down at the first title, beside measuring the whole plan:\n");
+    println!("| plan | nodes | title bytes | whole, ns | turned down, ns | turned down / whole | middle round |");
+    println!("|---|---|---|---|---|---|---|");
+    let mut all = plans();
+    all.push(("256 nodes of 1,024 bytes", (0..256).map(|k| (k.min(1), "x".repeat(1024))).collect()));
+    for (name, pairs) in all {
+        let lent = Lent::new(&pairs);
+        // the most columns that are too few for the first title
+        let columns = (0..).take_while(|&n| fits(&lent, n).1 < 2).last().unwrap();
+        assert!(fits(&lent, columns) == (false, 1) && fits(&lent, u32::MAX) == (true, pairs.len() as u64), "{name}: other titles are read");
+        let times = race(&mut [&mut || { keep(fits(&lent, u32::MAX)); }, &mut || { keep(fits(&lent, columns)); }], rounds);
+        println!(
+            "| {} | {} | {} | {:.0} | {:.0} | {:.2} | {:.2} |",
+            name,
+            pairs.len(),
+            lent.titles.len(),
+            times[0].0,
+            times[1].0,
+            times[1].0 / times[0].0,
+            times[1].1 / times[0].1,
+        );
+    }
+}
+
 fn main() {
     let rounds = std::env::args().nth(1).and_then(|w| w.parse().ok()).unwrap_or(400);
     let processor = std::fs::read_to_string("/proc/cpuinfo")
@@ -461,4 +501,5 @@ fn main() {
     for other in others() {
         other.race(rounds);
     }
+    panels(rounds);
 }

@@ -15,10 +15,10 @@ try: import rules
 except ImportError: rules = None
 
 TEXT, GRAPH, FENCED, READ, FILE = 0, 1, 2, 3, 4
-WHY = 6  # (vi)
+WHY, FITS = 6, 8  # (vi), (ix)
 # a look: the crate's, and what is added to it: (iv) a line's length is its code points, (xiii) plain marks, (i) a stand-in is given
 BYTES, FITTED, PLAIN, GIVEN = 0, 1, 2, 4
-LOOKS = {TEXT: tuple(range(8)), GRAPH: (BYTES, GIVEN), FENCED: (BYTES, GIVEN), READ: tuple(range(4)), FILE: (BYTES,), WHY: (BYTES,)}  # that a kind of request takes
+LOOKS = {TEXT: tuple(range(8)), GRAPH: (BYTES, GIVEN), FENCED: (BYTES, GIVEN), READ: tuple(range(4)), FILE: (BYTES,), WHY: (BYTES,), FITS: (BYTES,)}  # that a kind of request takes
 STANDIN, NOCELL, NOT_PLAIN = 12, 13, 17  # (i) a stand-in that may not stand in; (vi) no cell stands there; (xiii) a title that does not keep to the bytes of the plain profile
 CELL, BYTE, PRIME = 0xA5A5A5A5, 0xA5, 4294967291
 MOST_LENT_CELLS, MOST_OUT, MOST_TITLES, MOST_ENTRIES, MOST_PAYLOAD, MOST_STANDIN = 262144, 524288, 262144, 1024, 524288, 4096
@@ -210,20 +210,25 @@ class Picture:
         return rules.DONE, len(plan), cells, table, titles
 
 
-class Why:
-    """(vi) The question why the cell in a row and a column is drawn where it is, judged by what each answer means, not by a search."""
+class Question:
+    """A question of a plan with two numbers, which lends no memory."""
     plan = form = None
     look = BYTES
 
-    def __init__(self, row, column, table, titles): self.row, self.column, self.table, self.titles = row, column, table, titles
+    def __init__(self, first, second, table, titles): self.first, self.second, self.table, self.titles = first, second, table, titles
 
     def sent(self):
         payload = packed(self.table, self.titles)
-        return head(WHY, self.row, self.column, 0, len(payload)) + payload
+        return head(self.kind, self.first, self.second, 0, len(payload)) + payload
 
     def within(self): return len(self.titles) <= MOST_TITLES and len(self.table) <= MOST_ENTRIES
 
     def line(self, crate): return '%d %d %d %d %d 0 0 0' % self.settled()
+
+
+class Why(Question):
+    """(vi) Why the cell in a row and a column is drawn where it is, judged by what each answer means, not by a search."""
+    kind = WHY
 
     def settled(self):
         """Number, second number, case, and the nodes that are named."""
@@ -232,7 +237,7 @@ class Why:
         plan = rules.plan_of(self.table, self.titles)
         v = view(plan)
         for k, (depth, title) in enumerate(plan):
-            if title and (depth, v.column[k]) == (self.row, self.column): return rules.DONE, 0, *reason(plan, v, k)
+            if title and (depth, v.column[k]) == (self.first, self.second): return rules.DONE, 0, *reason(plan, v, k)
         return NOCELL, 0, 0, 0, 0
 
 
@@ -249,6 +254,27 @@ def reason(plan, v, k):
         true += [(1, q, 0)] * (q in under) + [(2, m, q) for m in under if untitled] + [(3, 0, q)] * (untitled and not left)
     one, = true  # exactly one is
     return one
+
+
+class Fits(Question):
+    """(ix) Whether the drawing fits so many columns and rows, judged by measuring the plan anew for each number of titles that it keeps."""
+    kind = FITS
+
+    def settled(self):
+        """Number, second number, 1 for yes, the titles read, 0."""
+        no = check(self.table, b' ' * len(self.titles))  # whether titles are UTF-8 plays no part
+        if no: return *no, 0, 0, 0
+        plan = rules.plan_of(self.table, self.titles)
+        sizes = sizes_read(tuple(plan))
+        large = [width > self.first or height > self.second for width, height in sizes]
+        return rules.DONE, 0, int(not large[-1]), large[:-1].index(True) if True in large[:-1] else len(plan), 0
+
+
+@functools.lru_cache(64)
+def sizes_read(plan):
+    """The width and the height of the plan with all titles after the first k emptied, for each k up to all."""
+    views = (view([(d, t if i < k else b'') for i, (d, t) in enumerate(plan)]) for k in range(len(plan) + 1))
+    return [(v.width, v.height) for v in views]
 
 
 def left(begun, lent, fill):

@@ -1,4 +1,5 @@
-/* Girthladder for C and C++: query plans as trees of boxes and as graphs, such trees read back, and why a step is drawn where it is.
+/* Girthladder for C and C++: query plans as trees of boxes and as graphs, such trees read back, why a step is drawn where it
+ * is, and whether a drawing fits the screen.
  *
  * A plan is a table and the bytes of its titles. The table has three uint32_t for each node, nodes depth first:
  *
@@ -50,7 +51,7 @@ enum girthladder_number {
     GIRTHLADDER_DONE = 0,   /* done: bytes written */
     GIRTHLADDER_RAGGED = 1, /* the table's length is no multiple of 3: 0 */
     GIRTHLADDER_MANY = 2,   /* over 256 nodes: 0 */
-    GIRTHLADDER_NONE = 3,   /* no node, drawing only: 0 */
+    GIRTHLADDER_NONE = 3,   /* no node, drawing and girthladder_fits: 0 */
     GIRTHLADDER_DEPTH = 4,  /* the depth rule is broken, or a depth is over 31: the first such node, counted from 0 */
     GIRTHLADDER_TITLE = 5,  /* a title reaches past the title bytes, or has over 1,024: the first such node */
     GIRTHLADDER_UTF8 = 6,   /* a title is not valid UTF-8: the first such node; reading: the picture is not, 0 */
@@ -226,6 +227,25 @@ void girthladder_why(const uint32_t *table, size_t table_length,
                      const uint8_t *titles, size_t titles_length,
                      uint32_t row, uint32_t column,
                      struct girthladder_reason *answer);
+
+struct girthladder_fitting {
+    uint64_t number; /* one of enum girthladder_number */
+    uint64_t second; /* its second number; of DONE 0 */
+    uint64_t fits;   /* 1 for yes, 0 for no */
+    uint64_t read;   /* how many titles were read */
+    uint64_t none;   /* 0 */
+};
+
+/* Does the drawing by girthladder_text fit a panel of so many columns and rows of characters? Any numbers may be asked for.
+ *   DONE    `fits` is 1 if the drawing is at most `columns` wide and `rows` high, and 0 if it is not. Titles are read in the table's order, and
+ *           no further than the answer is known: at a no, `read` is the least k such that the plan with all titles after the first k emptied
+ *           is too large already (0 if it is without any title); at a yes all are read.
+ *   else    RAGGED, MANY, NONE, DEPTH or TITLE, looked for in this order: `fits` and `read` are 0.
+ * Titles are not looked into but for their line breaks, so never UTF8; and never LARGE. */
+void girthladder_fits(const uint32_t *table, size_t table_length,
+                      const uint8_t *titles, size_t titles_length,
+                      uint32_t columns, uint32_t rows,
+                      struct girthladder_fitting *answer);
 
 #ifdef __cplusplus
 }

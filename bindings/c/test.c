@@ -499,6 +499,37 @@ static void each_reason(void) {
     for (size_t k = 0; k < sizeof all / sizeof *all; k++) forget(all[k]);
 }
 
+/* Whether the plan fits, and the titles read. */
+static int fits(const struct plan *p, uint32_t columns, uint32_t rows, uint64_t number, uint64_t second, uint64_t yes, uint64_t titles) {
+    int so = 1;
+    for (int null = 0; null < 2; null++) {
+        struct lent five = lend(sizeof(struct girthladder_fitting));
+        struct girthladder_fitting *a = (struct girthladder_fitting *)five.at;
+        girthladder_fits(pointer(&p->table, null), p->table.size / 4, pointer(&p->titles, null), p->titles.size, columns, rows, a);
+        so = so && marked(&five, sizeof *a) && a->number == number && a->second == second && a->fits == yes && a->read == titles && a->none == 0;
+        give_back(&five);
+    }
+    return so;
+}
+
+/* Document 01's example is 18 by 12; without titles 16 by 10, with the first 17 by 11, with the second 17 by 12. */
+static void each_panel(void) {
+    const uint32_t table[] = {0, 0, 1, 1, 1, 1, 1, 2, 1}, jump[] = {0, 0, 1, 2, 0, 1}, outside[] = {0, 0, 9};
+    struct plan p = plan(table, 9, "abc", 3), bad = plan(table, 9, "a\xFF\x80", 3), none = plan(NULL, 0, NULL, 0);
+    struct plan ragged = plan(table, 8, "abc", 3), deep = plan(jump, 6, "A", 1), far = plan(outside, 3, "A", 1);
+    for (uint32_t columns = 0; columns < 30; columns++)
+        for (uint32_t rows = 0; rows < 30; rows++) {
+            int yes = columns >= 18 && rows >= 12;
+            uint64_t titles = columns < 16 || rows < 10 ? 0 : columns < 17 || rows < 11 ? 1 : rows < 12 ? 2 : 3;
+            CHECK(fits(&p, columns, rows, GIRTHLADDER_DONE, 0, yes, titles) && fits(&bad, columns, rows, GIRTHLADDER_DONE, 0, yes, titles));
+        }
+    CHECK(fits(&p, 0xFFFFFFFF, 0xFFFFFFFF, GIRTHLADDER_DONE, 0, 1, 3));
+    CHECK(fits(&none, 80, 24, GIRTHLADDER_NONE, 0, 0, 0) && fits(&ragged, 80, 24, GIRTHLADDER_RAGGED, 0, 0, 0));
+    CHECK(fits(&deep, 80, 24, GIRTHLADDER_DEPTH, 1, 0, 0) && fits(&far, 80, 24, GIRTHLADDER_TITLE, 0, 0, 0));
+    struct plan *all[] = {&p, &bad, &none, &ragged, &deep, &far};
+    for (size_t k = 0; k < sizeof all / sizeof *all; k++) forget(all[k]);
+}
+
 int main(void) {
     const uint32_t table[] = {0, 0, 1, 1, 1, 1, 1, 2, 1}, untitled[] = {0, 0, 1, 1, 1, 0, 1, 1, 0};
     struct plan p = plan(table, 9, "abc", 3), empty = plan(NULL, 0, NULL, 0), lost = plan(untitled, 9, "abc", 3);
@@ -528,6 +559,7 @@ int main(void) {
     each_refusal();
     each_reading();
     each_reason();
+    each_panel();
     forget(&p);
     forget(&empty);
     forget(&lost);

@@ -1,7 +1,7 @@
 //! The same on lent memory: nothing is allocated. A table has three numbers a node, as [`Plan::parts`](crate::Plan::parts) gives them;
 //! any table, any titles and any lengths are taken.
 
-use crate::{Look, Reason, Refusal};
+use crate::{Fits, Look, Reason, Refusal};
 
 // girthladder.h. An empty slice's pointer is never read through.
 extern "C" {
@@ -63,6 +63,15 @@ extern "C" {
         titles_length: usize,
         row: u32,
         column: u32,
+        answer: *mut [u64; 5],
+    );
+    fn girthladder_fits(
+        table: *const u32,
+        table_length: usize,
+        titles: *const u8,
+        titles_length: usize,
+        columns: u32,
+        rows: u32,
         answer: *mut [u64; 5],
     );
 }
@@ -205,6 +214,14 @@ pub fn why(table: &[u32], titles: &[u8], row: u32, column: u32) -> Result<Reason
         13 => Err(Refusal::NoCell { row, column }),
         number => Err(Refusal::of(number, five[1], table, titles, &[])),
     }
+}
+
+/// Whether the drawing fits a panel of so many columns and rows of characters; of the titles only the line breaks are looked at.
+pub fn fits(table: &[u32], titles: &[u8], columns: u32, rows: u32) -> Fits {
+    let mut five = [0; 5];
+    // SAFETY: two slices, lent for the call by pointer and length, and five numbers.
+    unsafe { girthladder_fits(table.as_ptr(), table.len(), titles.as_ptr(), titles.len(), columns, rows, &mut five) };
+    Fits { yes: five[2] == 1, read: five[3] as usize, refusal: done(five, table, titles, &[]).err() }
 }
 
 // The nodes that were read, or the refusal.

@@ -32,8 +32,9 @@
 //! assert!(text.contains("│ (no title) │"));
 //! ```
 //!
-//! [`why`] says of a step in the drawing why it is drawn where it is.
+//! [`why`] says of a step in the drawing why it is drawn where it is, and [`fits`] whether a drawing fits the screen.
 
+mod fits;
 mod look;
 mod plan;
 mod reason;
@@ -41,6 +42,7 @@ mod refusal;
 
 pub mod lent;
 
+pub use fits::Fits;
 pub use look::Look;
 pub use plan::Plan;
 pub use reason::Reason;
@@ -113,6 +115,21 @@ pub fn read_as(picture: impl AsRef<[u8]>, look: Look) -> Result<Plan, Refusal> {
 pub fn why(plan: &Plan, row: u32, column: u32) -> Result<Reason, Refusal> {
     let (table, titles) = plan.parts();
     lent::why(table, titles, row, column)
+}
+
+/// Whether the drawing, as [`draw`] makes it, fits a panel of so many columns and rows of characters. A long plan is turned down at the
+/// first title that makes it too large.
+///
+/// ```
+/// use girthladder::Plan;
+/// let plan: Plan = [(0, "a"), (1, "b"), (1, "c")].into_iter().collect();
+/// assert!(girthladder::fits(&plan, 18, 12).yes);
+/// let no = girthladder::fits(&plan, 16, 12);
+/// assert_eq!((no.yes, no.read), (false, 1));
+/// ```
+pub fn fits(plan: &Plan, columns: u32, rows: u32) -> Fits {
+    let (table, titles) = plan.parts();
+    lent::fits(table, titles, columns, rows)
 }
 
 // A drawing on as many cells as it needs.

@@ -10,7 +10,7 @@ pub enum Refusal {
     Ragged { entries: usize },
     /// 2: over 256 nodes.
     Many { nodes: usize },
-    /// 3: no node; drawing only.
+    /// 3: no node; drawing and [`fits`](crate::fits()) only.
     NoNode,
     /// 4: the first node's depth is not 0, or this node is more than one deeper than the node before it, which is at depth `before`, or its depth is over 31.
     Depth { node: usize, depth: u32, before: Option<u32> },

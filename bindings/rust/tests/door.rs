@@ -1,5 +1,5 @@
-//! Document 01's example and every refusal, through `draw`, `dot`, `fenced`, `read`, `why` and on lent memory with marked numbers around each buffer.
-use girthladder::{dot, dot_with, draw, draw_as, draw_with, fenced, fenced_with, lent, read, read_as, why, Look, Plan, Reason, Refusal};
+//! Document 01's example and every refusal, through `draw`, `dot`, `fenced`, `read`, `why`, `fits` and on lent memory with marked numbers around each buffer.
+use girthladder::{dot, dot_with, draw, draw_as, draw_with, fenced, fenced_with, fits, lent, read, read_as, why, Fits, Look, Plan, Reason, Refusal};
 
 const PICTURE: &str = "        0      1
    ┌──────────────
@@ -341,6 +341,40 @@ fn why_a_step_is_drawn_here() {
     assert_eq!(lent::why(&TABLE[..8], b"abc", 0, 0), Err(Refusal::Ragged { entries: 8 }));
     assert_eq!(lent::why(&TABLE, b"ab", 0, 0).unwrap_err().number(), 5);
     assert_eq!(lent::why(&TABLE, b"ab\xFF", 9, 9), Err(Refusal::Utf8 { node: 2 }));
+}
+
+#[test]
+fn does_it_fit_the_screen() {
+    // 18 by 12; without titles 16 by 10, with the first 17 by 11, with the second 17 by 12
+    let asked = |columns, rows| {
+        let f = fits(&example(), columns, rows);
+        assert_eq!(f.refusal, None);
+        (f.yes, f.read)
+    };
+    for (columns, rows, answer) in [
+        (18, 12, (true, 3)),
+        (u32::MAX, u32::MAX, (true, 3)),
+        (17, 12, (false, 3)),
+        (18, 11, (false, 2)),
+        (16, 12, (false, 1)),
+        (18, 10, (false, 1)),
+        (15, 12, (false, 0)),
+        (18, 9, (false, 0)),
+        (0, 0, (false, 0)),
+    ] {
+        assert_eq!(asked(columns, rows), answer);
+    }
+    let refused = |refusal| Fits { yes: false, read: 0, refusal: Some(refusal) };
+    assert_eq!(fits(&Plan::new(), 80, 24), refused(Refusal::NoNode));
+    assert_eq!(fits(&plan(&[(0, "a"), (2, "b")]), 80, 24), refused(Refusal::Depth { node: 1, depth: 2, before: Some(0) }));
+    assert_eq!(lent::fits(&TABLE[..8], b"abc", 80, 24), refused(Refusal::Ragged { entries: 8 }));
+    // bytes that are no UTF-8 are counted like any others, and what cannot be drawn for its cells is measured too
+    assert_eq!(lent::fits(&TABLE, b"\xFF\x80\xFF", 18, 12), Fits { yes: true, read: 3, refusal: None });
+    let title = "x".repeat(1024);
+    let large: Plan = (0..256).map(|_| (0, &title)).collect();
+    assert_eq!(draw(&large), Err(Refusal::Large));
+    assert_eq!(fits(&large, u32::MAX, u32::MAX), Fits { yes: true, read: 256, refusal: None });
+    assert_eq!(fits(&large, 2000, 24), Fits { yes: false, read: 1, refusal: None });
 }
 
 // A stand-in for polars-plan's TreeFmtNode, handed over as the README shows.

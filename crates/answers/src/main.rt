@@ -30,7 +30,7 @@ fn known(kind: u32, look: u32) -> bool {
     if kind == 4 {
         return look == 0;
     }
-    if kind == 6 {
+    if question::known(kind) {
         return look == 0;
     }
     if kind < 3 {
@@ -348,7 +348,7 @@ fn reading(
     )
 }
 
-// Answers a request whose head was read: kind 3 has a picture to read, kind 6 is a question of a plan. (op = kind + 256 × look.)
+// Answers a request whose head was read: kind 3 has a picture to read, kinds 6 and 8 are questions of a plan. (op = kind + 256 × look.)
 fn asked(
     head: &[u8],
     input: &mut [u8],
@@ -365,8 +365,8 @@ fn asked(
     if kind == 3 {
         return reading(look, head, input, table, cells, out);
     }
-    if kind == 6 {
-        return question::request(head, input, table);
+    if question::known(kind) {
+        return question::request(kind, head, input, table);
     }
     request(kind, look, head, input, table, cells, out)
 }

@@ -9,6 +9,7 @@ ghost use Rattle.rules.specs.Graph.{bare, fenced};
 ghost use Rattle.rules.specs.Answers.{drawing, canvasAfter, outAfter, graphAnswer, graphAfter};
 ghost use Rattle.rules.specs.Switches.{givenOf, lookIn};
 ghost use Rattle.girthladder.specs.Five.{drawingFive, graphFive, readingFive, ReadFive};
+pub use question::girthladder_fits;
 pub use question::girthladder_why;
 use rules::Answer;
 use rules::Drawing;

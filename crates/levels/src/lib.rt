@@ -9,6 +9,7 @@ pub use place::columns;
 pub use profile::keeps;
 pub use profile::refusal;
 pub use refuse::bad_depth;
+pub use refuse::bad_title;
 pub use refuse::first_refusal;
 pub use titles::shown_title;
 pub use titles::title;

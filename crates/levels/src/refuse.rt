@@ -61,7 +61,7 @@ fn wrong_title(table: &[u32], k: usize, titles: &[u8]) -> bool
 }
 
 // The first node with a wrong title, or nodes.
-fn bad_title(table: &[u32], nodes: usize, titles: &[u8]) -> usize
+pub fn bad_title(table: &[u32], nodes: usize, titles: &[u8]) -> usize
     requires { ⌜ 3 * nodes ≤ length (now table) ⌝ }
     ensures { λ r. ⌜ r ≡ first (badTitle (now (table .entry)) (now (titles .entry))) nodes ⌝ }
 {

@@ -14,6 +14,7 @@ pub use heights::Rows;
 pub use heights::canvas_height;
 pub use heights::row_centers;
 pub use heights::tree_rows;
+pub use lines::measured;
 pub use lines::measures;
 pub use size::area;
 pub use size::index_digits;

@@ -35,11 +35,11 @@ same-length c = search needs
 returns-2 : tie.Need-returns-2
 returns-2 c = search needs
 
-slice-reshare-prefix-why : tie.Need-slice-reshare-prefix-why
-slice-reshare-prefix-why c = search needs
+slice-reshare-prefix-ask-plan : tie.Need-slice-reshare-prefix-ask-plan
+slice-reshare-prefix-ask-plan c = search needs
 
-slice-aggregate-why : tie.Need-slice-aggregate-why
-slice-aggregate-why c = sym (length-take-le _ _ (search needs))
+slice-aggregate-ask-plan : tie.Need-slice-aggregate-ask-plan
+slice-aggregate-ask-plan c = sym (length-take-le _ _ (search needs))
 
 word-requires-2 : tie.Need-word-requires-2
 word-requires-2 c κs = search needs
@@ -47,8 +47,8 @@ word-requires-2 c κs = search needs
 word-requires-3 : tie.Need-word-requires-3
 word-requires-3 c κs = search needs
 
-why-requires : tie.Need-why-requires
-why-requires c κs = search needs
+ask-plan-requires : tie.Need-ask-plan-requires
+ask-plan-requires c κs = search needs
 
 bad-requires-3 : tie.Need-bad-requires-3
 bad-requires-3 c κs = search needs
@@ -85,11 +85,11 @@ request-spec =
     bad-requires-2
     same-length
     returns-2
-    slice-reshare-prefix-why
-    slice-aggregate-why
+    slice-reshare-prefix-ask-plan
+    slice-aggregate-ask-plan
     word-requires-2
     word-requires-3
-    why-requires
+    ask-plan-requires
     bad-requires-3
     same-length-2
     same-length-3

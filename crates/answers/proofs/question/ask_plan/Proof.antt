@@ -1,9 +1,9 @@
--- The payload's numbers are tested before they are used, so that each part that is lent lies within its slice.
+-- The payload's parts lie within it, so that each part that is lent lies within its slice.
 use mathlib.Core.Path.{sym}
 use lib.Seq.{length-take-le}
 use borrow.Author.Needs.{needs}
-use Rattle.answers.proofs.question.why.Statement.{statement}
-use Rattle.answers.proofs.question.why.Tie as tie
+use Rattle.answers.proofs.question.ask_plan.Statement.{statement}
+use Rattle.answers.proofs.question.ask_plan.Tie as tie
 
 plan-in-requires : tie.Need-plan-in-requires
 plan-in-requires c κs = search needs
@@ -20,23 +20,20 @@ slice-aggregate-words c = sym (length-take-le _ _ (search needs))
 words-requires : tie.Need-words-requires
 words-requires c κs = search needs
 
-slice-reshare-prefix-why : tie.Need-slice-reshare-prefix-why
-slice-reshare-prefix-why c = search needs
+slice-reshare-prefix-ask : tie.Need-slice-reshare-prefix-ask
+slice-reshare-prefix-ask c = search needs
 
-slice-aggregate-why : tie.Need-slice-aggregate-why
-slice-aggregate-why c = sym (length-take-le _ _ (search needs))
+slice-aggregate-ask : tie.Need-slice-aggregate-ask
+slice-aggregate-ask c = sym (length-take-le _ _ (search needs))
 
-part-why-start : tie.Need-part-why-start
-part-why-start c = search needs
+part-ask-start : tie.Need-part-ask-start
+part-ask-start c = search needs
 
-part-why-end : tie.Need-part-why-end
-part-why-end c = search needs
+part-ask-end : tie.Need-part-ask-end
+part-ask-end c = search needs
 
-why-requires : tie.Need-why-requires
-why-requires c κs = search needs
-
-told-requires : tie.Need-told-requires
-told-requires c κs = search needs
+ask-requires : tie.Need-ask-requires
+ask-requires c κs = search needs
 
 print-five-requires : tie.Need-print-five-requires
 print-five-requires c κs = search needs
@@ -47,8 +44,8 @@ same-length c = search needs
 returns-2 : tie.Need-returns-2
 returns-2 c = search needs
 
-pub why-spec : {M : Type 1} → statement M
-why-spec =
+pub ask-plan-spec : {M : Type 1} → statement M
+ask-plan-spec =
     tie.close
     (tie.spec
     plan-in-requires
@@ -56,12 +53,11 @@ why-spec =
     slice-relend-prefix-words
     slice-aggregate-words
     words-requires
-    slice-reshare-prefix-why
-    slice-aggregate-why
-    part-why-start
-    part-why-end
-    why-requires
-    told-requires
+    slice-reshare-prefix-ask
+    slice-aggregate-ask
+    part-ask-start
+    part-ask-end
+    ask-requires
     print-five-requires
     same-length
     returns-2)
