@@ -39,7 +39,7 @@ fn look(table: &[u32], nodes: usize, place: &[u32; 256], row: u32, column: u32) 
 }
 
 // The node whose cell stands there, or nodes.
-pub fn cell_at(table: &[u32], nodes: usize, row: u32, column: u32) -> usize
+pub(crate) fn cell_at(table: &[u32], nodes: usize, row: u32, column: u32) -> usize
     requires { ⌜ (3 * nodes ≡ length (now table)) × (nodes ≤ 256) ⌝ }
     ensures { λ r. ⌜ r ≡ first (standsIn (now (table .entry)) row column) nodes ⌝ }
 {

@@ -40,7 +40,7 @@ fn under(table: &[u32], k: usize, q: usize, row: u32) -> Reason
 }
 
 // What is true of the cell of node k.
-pub fn reason(table: &[u32], k: usize) -> Reason
+pub(crate) fn reason(table: &[u32], k: usize) -> Reason
     requires { ⌜ (3 * k + 3 ≤ length (now table)) × (depthIn (now table) 0 ≡ 0) ⌝ }
     ensures { λ r. ⌜ r ≡ reasonOf (now (table .entry)) k ⌝ }
 {

@@ -23,7 +23,7 @@ fn node_refusal(table: &[u32], nodes: usize, titles: &[u8]) -> Answer
 }
 
 // The first of refusals 1 to 5; Done if there is none.
-pub fn first_refusal(table: &[u32], titles: &[u8]) -> Answer
+pub(crate) fn first_refusal(table: &[u32], titles: &[u8]) -> Answer
     ensures { λ r. ⌜ r ≡ refusal (now (table .entry)) (now (titles .entry)) ⌝ }
 {
     if table.len() % 3 != 0 {

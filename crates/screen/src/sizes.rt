@@ -17,7 +17,7 @@ pub struct Canvas {
 }
 
 // Wider than n or taller than m.
-pub fn over(c: Canvas, n: u32, m: u32) -> bool
+pub(crate) fn over(c: Canvas, n: u32, m: u32) -> bool
     ensures { λ r. ⌜ r ≡ (ltb n (c .width) || ltb m (c .height)) ⌝ }
 {
     if n < c.width {
@@ -47,7 +47,7 @@ pub struct Asked {
 }
 
 // Raises the column and the row of a cell to what it asks for, and the canvas by as much.
-pub fn grown(t: Asked, widths: &mut [u32], heights: &mut [u32], old: Canvas) -> Canvas
+pub(crate) fn grown(t: Asked, widths: &mut [u32], heights: &mut [u32], old: Canvas) -> Canvas
     requires { ⌜ (t .column < length (now widths)) × (old .width + (t .longest + 6) < 2 ^ 32) ⌝ }
     requires { ⌜ (t .row < length (now heights)) × (old .height + (t .lines + 2) < 2 ^ 32) ⌝ }
     ensures { λ r. ⌜ (r .width ≡ old .width + grownBy (now (widths .entry)) (t .column) (t .longest + 6)) × (now (widths .exit) ≡ raised (now (widths .entry)) (t .column) (t .longest + 6)) ⌝ }
@@ -59,7 +59,7 @@ pub fn grown(t: Asked, widths: &mut [u32], heights: &mut [u32], old: Canvas) -> 
 }
 
 // The canvas of a plan without titles: 6 for each of so many columns, 2 for each row.
-pub fn bare(table: &[u32], nodes: usize, columns: u32) -> Canvas
+pub(crate) fn bare(table: &[u32], nodes: usize, columns: u32) -> Canvas
     requires { ⌜ (3 * nodes ≡ length (now table)) × (columns ≤ 256) × (rowsOf (planOf (now table) []) ≤ 32) ⌝ }
     requires { ⌜ ((k : ℕ) → k < nodes → depthIn (now table) k < 32) ⌝ }
     ensures { λ r. ⌜ r .width ≡ length (digits (rowsOf (planOf (now (table .entry)) []) - 1)) + 3 + 6 * columns ⌝ }

@@ -54,7 +54,7 @@ pub struct Found {
 }
 
 // Reads titles until the canvas, which starts as that of the plan without titles, is wider than n or taller than m; column[k] is node k's.
-pub fn read_titles(
+pub(crate) fn read_titles(
     table: &[u32],
     nodes: usize,
     titles: &[u8],

@@ -54,12 +54,13 @@ loop-less c = search needs
 
 loop-again : tie.Need-loop-again Inv-loop μ-loop
 loop-again c =
-    let s = c .before .before .before .before .before .before .before .before .before in
+    let e = c .before .before .before in
+    let s = e .before .before .before .before .before .before in
     let l = c .before .before .before .before .before .before .loop in
     let o = c .before .before .before .before .over in (
       omega arith,
       c .turn .ensures,
-      below-more _ _ (l .inv .2) (goes-on (s .pre .0 .0) (omega (arith, s .pre .0 .1)) (l .inv .1) (s .args .n) (s .args .m) (o .result) (o .ensures) (c .before .before .before .if1 .left)),
+      below-more _ _ (l .inv .2) (goes-on (s .pre .0 .0) (omega (arith, s .pre .0 .1)) (l .inv .1) (s .args .n) (s .args .m) (o .result) (o .ensures) (e .if1 .left)),
     )
 
 over-requires-2 : tie.Need-over-requires-2 Inv-loop μ-loop
