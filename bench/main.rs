@@ -37,6 +37,10 @@ extern "C" {
         picture: *const u8, picture_length: usize, look: u32, canvas: *mut u32, canvas_length: usize,
         table: *mut u32, table_length: usize, titles: *mut u8, titles_length: usize, answer: *mut [u64; 5],
     );
+    fn girthladder_rows(
+        table: *const u32, table_length: usize, titles: *const u8, titles_length: usize,
+        row: *mut u32, row_length: usize, out: *mut u8, out_length: usize, answer: *mut [u64; 5],
+    );
     fn girthladder_fits(
         table: *const u32, table_length: usize, titles: *const u8, titles_length: usize,
         columns: u32, rows: u32, answer: *mut [u64; 5],
@@ -100,6 +104,18 @@ impl Lent {
             girthladder_text_as(
                 self.table.as_ptr(), self.table.len(), self.titles.as_ptr(), self.titles.len(), look,
                 self.canvas.as_mut_ptr(), self.canvas.len(), self.out.as_mut_ptr(), self.out.len(), &mut five,
+            )
+        }
+        five
+    }
+
+    // As `text`, with the canvas' first cells lent as a row.
+    fn rows(&mut self, cells: usize) -> [u64; 5] {
+        let mut five = [0; 5];
+        unsafe {
+            girthladder_rows(
+                self.table.as_ptr(), self.table.len(), self.titles.as_ptr(), self.titles.len(),
+                self.canvas[..cells].as_mut_ptr(), cells, self.out.as_mut_ptr(), self.out.len(), &mut five,
             )
         }
         five
@@ -441,6 +457,41 @@ fn others() -> [Other; 2] {
     ]
 }
 
+// ---- drawing without the canvas
+
+// With one row lent, beside the drawing on the canvas: with ample output, and with just the bytes.
+fn in_rows(rounds: usize) {
+    for (lent, room) in [("5 bytes of output lent for each cell", 5), ("just the bytes needed lent", 0)] {
+        println!("\nDrawing without the canvas, with {lent}, beside the drawing on it:\n");
+        println!("| plan | cells | bytes | canvas, ns | rows, ns | rows / canvas | middle round | ns a cell |");
+        println!("|---|---|---|---|---|---|---|---|");
+        let mut all = plans();
+        // titles of as many lines as stand side by side without being refused: 60 of 400
+        all.push(("60 titles of 400 lines", (0..60).map(|k| (k.min(1), "x\n".repeat(399) + "x")).collect()));
+        // 256 nodes on 8 levels, with short titles
+        let mut tree: Pairs = plans().pop().unwrap().1;
+        for (k, node) in tree.iter_mut().enumerate() {
+            node.1 = format!("step {k}");
+        }
+        all.push(("256 nodes of short titles", tree));
+        for (name, pairs) in all {
+            let expected = theirs(&grow(&pairs, &mut 0), false);
+            let (mut canvas, mut row) = (Lent::new(&pairs), Lent::new(&pairs));
+            let cells = canvas.lend(0);
+            let width = row.rows(0)[1] as usize;
+            row.canvas = vec![0; width];
+            let room = if room == 0 { expected.len() } else { room * cells };
+            canvas.out = vec![0; room];
+            row.out = vec![0; room];
+            let fives = (canvas.text(), row.rows(width));
+            assert!(fives.0 == fives.1 && fives.0[0] == 0 && canvas.out == row.out, "{name}: the two differ");
+            assert!(canvas.canvas[cells - width..] == row.canvas[..], "{name}: another last row");
+            assert!(row.out[..expected.len()] == *expected.as_bytes(), "{name}: it differs from the crate's");
+            beside(name, cells, expected.len(), rounds, &mut || { keep(canvas.text()); }, &mut || { keep(row.rows(width)); });
+        }
+    }
+}
+
 // ---- does it fit the screen
 
 // Whether the plan fits so many columns, and the titles read.
@@ -501,5 +552,6 @@ fn main() {
     for other in others() {
         other.race(rounds);
     }
+    in_rows(rounds);
     panels(rounds);
 }

@@ -4,7 +4,8 @@ Texts and the crate's graphs come from the Rust crate itself (../shared/oracle b
 boxes, the plan that is read off a picture and what is left in lent memory from a second reading of the documents (../shared/model/rules.py
 is document 01, and takes a request of document 02 as a keyword). Plain drawings come from both: the crate's drawing, each mark of which is
 put as a plain one, has to be what the second reading draws. With a stand-in the crate is asked for the plan with every empty title
-replaced. Nothing here runs our code.
+replaced. A drawing that is made row by row is held to the same text, of which the lent row has to hold the last line. Nothing here runs
+our code.
 """
 import functools, itertools, os, shutil, struct, subprocess, sys
 
@@ -15,10 +16,13 @@ try: import rules
 except ImportError: rules = None
 
 TEXT, GRAPH, FENCED, READ, FILE = 0, 1, 2, 3, 4
+ROWS = 5  # (iii)
 WHY, FITS = 6, 8  # (vi), (ix)
+DRAWN = TEXT, FILE, ROWS
 # a look: the crate's, and what is added to it: (iv) a line's length is its code points, (xiii) plain marks, (i) a stand-in is given
 BYTES, FITTED, PLAIN, GIVEN = 0, 1, 2, 4
 LOOKS = {TEXT: tuple(range(8)), GRAPH: (BYTES, GIVEN), FENCED: (BYTES, GIVEN), READ: tuple(range(4)), FILE: (BYTES,), WHY: (BYTES,), FITS: (BYTES,)}  # that a kind of request takes
+LOOKS[ROWS] = LOOKS[TEXT]
 STANDIN, NOCELL, NOT_PLAIN = 12, 13, 17  # (i) a stand-in that may not stand in; (vi) no cell stands there; (xiii) a title that does not keep to the bytes of the plain profile
 CELL, BYTE, PRIME = 0xA5A5A5A5, 0xA5, 4294967291
 MOST_LENT_CELLS, MOST_OUT, MOST_TITLES, MOST_ENTRIES, MOST_PAYLOAD, MOST_STANDIN = 262144, 524288, 262144, 1024, 524288, 4096
@@ -125,16 +129,18 @@ class Request:
             self.broken = got is None
             table, titles = got or ([], b'')
         self.table, self.titles = table, titles
-        self.refusal = None if self.broken else check(table, titles, kind in (TEXT, FILE), look, standin)
+        self.refusal = None if self.broken else check(table, titles, kind in DRAWN, look, standin)
         # the plan that is shown; the titles that are empty are counted in the one that is given
         self.plan = self.untitled = None
         if not self.broken and not self.refusal:
             given = rules.plan_of(table, titles)
             self.plan, self.untitled = replaced(given, standin), sum(not t for _, t in given)
-        self.view = view(self.plan, look) if self.plan and kind in (TEXT, FILE) else None
+        self.view = view(self.plan, look) if self.plan and kind in DRAWN else None
+        self.area = self.view.width * self.view.height if self.view else 0
+        self.cells = self.view.width if self.view and kind == ROWS else self.area  # that have to be lent: (iii) one row
         # what the crate is asked for: it has no fitted boxes, and needs no answer for a drawing that is refused
-        if look == FITTED or self.view and self.view.width * self.view.height > min(lent1, rules.LIMIT): self.form = None
-        else: self.form = {TEXT: 'text', FILE: 'text', GRAPH: 'dot'}.get(kind)
+        if look == FITTED or self.cells > lent1 or self.area > rules.LIMIT: self.form = None
+        else: self.form = {TEXT: 'text', FILE: 'text', ROWS: 'text', GRAPH: 'dot'}.get(kind)
 
     def sent(self):
         if self.kind == FILE: payload = self.file
@@ -154,7 +160,7 @@ class Request:
         return '%d %d %d %d %d %d %d 0' % (number, second, *sizes, left(cells, lent1, CELL), left(out, self.lent2, BYTE))
 
     def settled(self, crate):
-        """Number, second number, sizes, and what the canvas and the output begin with afterwards."""
+        """Number, second number, sizes, and what the lent cells and the output begin with afterwards."""
         none = (0, 0, 0)
         if self.broken: return rules.TRAILER, 0, none, [], b''
         if self.refusal: return *self.refusal, none, [], b''
@@ -163,14 +169,15 @@ class Request:
             if len(crate) > self.lent2: return rules.ROOM, len(crate), none, [], b''
             return rules.DONE, len(crate), none, [], crate
         width, height = self.view.width, self.view.height
-        if width * height > rules.LIMIT: return rules.LARGE, 0, none, [], b''
-        if width * height > self.lent1: return rules.CANVAS, width * height, none, [], b''
+        if self.area > rules.LIMIT: return rules.LARGE, 0, none, [], b''
+        if self.cells > self.lent1: return rules.CANVAS, self.cells, none, [], b''
         if self.look & ~GIVEN:
             drawing = text(self.plan, self.look)
             assert not self.look & PLAIN or drawing == plainly(crate)
             crate = drawing
         cells = [ord(c) for row in crate.decode().split('\n')[:-1] for c in row.ljust(width)]
         assert len(cells) == width * height
+        cells = cells[-self.cells:]  # all of them; (iii) or the last row
         if len(crate) > self.lent2: return rules.ROOM, len(crate), none, cells, b''
         return rules.DONE, len(crate), (width, height, self.untitled), cells, crate
 

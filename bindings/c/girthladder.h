@@ -1,5 +1,5 @@
-/* Girthladder for C and C++: query plans as trees of boxes and as graphs, such trees read back, why a step is drawn where it
- * is, and whether a drawing fits the screen.
+/* Girthladder for C and C++: query plans as trees of boxes, on a canvas or row by row, and as graphs, such trees read back, why a step is
+ * drawn where it is, and whether a drawing fits the screen.
  *
  * A plan is a table and the bytes of its titles. The table has three uint32_t for each node, nodes depth first:
  *
@@ -58,7 +58,7 @@ enum girthladder_number {
     GIRTHLADDER_STANDIN = 12, /* the stand-in is empty, has over 1,024 bytes or is not valid UTF-8, or is not plain in a plain drawing: 0 */
     GIRTHLADDER_NOT_PLAIN = 17, /* GIRTHLADDER_PLAIN, and a title has a byte that is not 20 to 7E or '\n', drawing only: the first such node */
     GIRTHLADDER_LARGE = 7,  /* over 1,048,576 cells, drawing and reading: 0 */
-    GIRTHLADDER_CANVAS = 8, /* the canvas is too short, drawing and reading: cells needed */
+    GIRTHLADDER_CANVAS = 8, /* the canvas is too short, drawing and reading: cells needed; girthladder_rows: the row is, the width */
     GIRTHLADDER_ROOM = 9,   /* the output is too short: bytes needed; reading: see there */
     GIRTHLADDER_UNDRAWN = 10, /* no ordinary plan is drawn as this picture, reading only: 0 */
     GIRTHLADDER_NOCELL = 13 /* no cell stands there, girthladder_why only: 0 */
@@ -122,6 +122,42 @@ static inline void girthladder_text_standin(const uint32_t *table, size_t table_
                                             struct girthladder_answer *answer) {
     girthladder_text_with(table, table_length, titles, titles_length, look, standin != NULL, standin, standin ? standin_length : 0,
                           canvas, canvas_length, out, out_length, answer);
+}
+
+/* Draws the plan as girthladder_text does, for a caller who can lend one row of cells and no canvas: each row is made by itself and put
+ * behind those before it. Given cells and room for both, the five numbers and the bytes are those of girthladder_text, whatever the plan.
+ *   DONE    out[0 .. second) holds the text, as there; row[0 .. width) holds the code points of its last row, filled up with spaces.
+ *           What lies beyond is unchanged.
+ *   CANVAS  the row has fewer cells than the drawing is wide: the width.
+ *   ROOM    the row is as for DONE; out is unchanged.
+ *   else    row and out are unchanged. LARGE is the same here, of width times height.
+ * How much to lend: ask with row and out of length 0, and CANVAS tells the width; ask with that row and out of length 0, and ROOM tells the
+ * bytes. 5 bytes for each cell of the drawing are always room enough, and then no row is made twice; else all bytes are counted first. */
+void girthladder_rows(const uint32_t *table, size_t table_length,
+                      const uint8_t *titles, size_t titles_length,
+                      uint32_t *row, size_t row_length,
+                      uint8_t *out, size_t out_length,
+                      struct girthladder_answer *answer);
+
+/* The same in this look and with a stand-in, as girthladder_text_with takes them. */
+void girthladder_rows_with(const uint32_t *table, size_t table_length,
+                           const uint8_t *titles, size_t titles_length,
+                           uint32_t look,
+                           uint32_t given, const uint8_t *standin, size_t standin_length,
+                           uint32_t *row, size_t row_length,
+                           uint8_t *out, size_t out_length,
+                           struct girthladder_answer *answer);
+
+/* The same from C, where null is no stand-in. */
+static inline void girthladder_rows_standin(const uint32_t *table, size_t table_length,
+                                            const uint8_t *titles, size_t titles_length,
+                                            uint32_t look,
+                                            const uint8_t *standin, size_t standin_length,
+                                            uint32_t *row, size_t row_length,
+                                            uint8_t *out, size_t out_length,
+                                            struct girthladder_answer *answer) {
+    girthladder_rows_with(table, table_length, titles, titles_length, look, standin != NULL, standin, standin ? standin_length : 0,
+                          row, row_length, out, out_length, answer);
 }
 
 /* Writes the plan as the graph of the crate polars-plan, titles as they are.

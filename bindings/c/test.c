@@ -142,13 +142,54 @@ static void graphed(graph *f, const char *text, size_t bytes, const struct plan 
     give_back(&out);
 }
 
-/* A refusal: of the drawing this number (its second number with it), of both graphs that one; no memory changes. */
+/* The answer of a drawing that is lent one row, in this look and with this stand-in, or null; look 0 without one is asked of girthladder_rows. */
+static struct girthladder_answer rowed(const struct plan *p, uint32_t look, const void *standin, size_t bytes, struct lent *row, struct lent *out, int null) {
+    struct lent text = read_only(standin, bytes), five = lend(sizeof(struct girthladder_answer));
+    struct girthladder_answer a, *answer = (struct girthladder_answer *)five.at;
+    const uint32_t *table = pointer(&p->table, null);
+    const uint8_t *titles = pointer(&p->titles, null), *shown = standin ? text.at : NULL;
+    uint32_t *cells = (uint32_t *)pointer(row, null);
+    uint8_t *to = (uint8_t *)pointer(out, null);
+    size_t entries = p->table.size / 4, size = p->titles.size;
+    if (look || standin) girthladder_rows_standin(table, entries, titles, size, look, shown, bytes, cells, row->size / 4, to, out->size, answer);
+    else girthladder_rows(table, entries, titles, size, cells, row->size / 4, to, out->size, answer);
+    CHECK(marked(&five, sizeof a));
+    a = *answer;
+    give_back(&five);
+    give_back(&text);
+    return a;
+}
+
+/* The example with this much of a row and room: what is answered, and what is left in both. */
+static void example_in_rows(const struct plan *p, size_t cells, size_t room, int null) {
+    struct lent row = lend(4 * cells), out = lend(room);
+    struct girthladder_answer a = rowed(p, 0, NULL, 0, &row, &out, null);
+    if (cells < 18) {
+        CHECK(is(a, GIRTHLADDER_CANVAS, 18) && marked(&row, 0) && marked(&out, 0));
+    } else {
+        /* "   │  ╰───╯  ╰───╯", which is as wide as the drawing */
+        static const uint32_t last[18] = {' ', ' ', ' ', 0x2502, ' ', ' ', 0x2570, 0x2500, 0x2500, 0x2500, 0x256F, ' ', ' ', 0x2570, 0x2500, 0x2500, 0x2500, 0x256F};
+        CHECK(memcmp(row.at, last, sizeof last) == 0 && marked(&row, sizeof last));
+        if (room < BYTES) {
+            CHECK(is(a, GIRTHLADDER_ROOM, BYTES) && marked(&out, 0));
+        } else {
+            CHECK(is(a, GIRTHLADDER_DONE, BYTES) && a.width == 18 && a.height == 12 && a.untitled == 0);
+            CHECK(memcmp(out.at, picture, BYTES) == 0 && marked(&out, BYTES));
+        }
+    }
+    give_back(&row);
+    give_back(&out);
+}
+
+/* A refusal: of the drawing, on a canvas and with one row, this number (its second number with it), of both graphs that one; no memory changes. */
 static void refused(const uint32_t *table, size_t entries, const void *titles, size_t bytes, uint64_t number, uint64_t second, int graphs_too) {
     for (int null = 0; null < 2; null++) {
         struct plan p = plan(table, entries, titles, bytes);
         struct lent canvas = lend(4 * 999), out = lend(999), none = lend(0);
         CHECK(is(call(NULL, &p, &canvas, &out, null), number, second) && marked(&canvas, 0) && marked(&out, 0));
         CHECK(is(call(NULL, &p, &none, &none, null), number, second) && marked(&none, 0));
+        CHECK(is(rowed(&p, 0, NULL, 0, &canvas, &out, null), number, second) && marked(&canvas, 0) && marked(&out, 0));
+        CHECK(is(rowed(&p, 0, NULL, 0, &none, &none, null), number, second) && marked(&none, 0));
         if (graphs_too) {
             CHECK(is(call(girthladder_dot, &p, NULL, &out, null), number, second) && marked(&out, 0));
             CHECK(is(call(girthladder_fenced, &p, NULL, &none, null), number, second) && marked(&none, 0));
@@ -240,6 +281,67 @@ static void each_standin(void) {
     forget(&whole);
     forget(&bad);
     forget(&none);
+}
+
+/* One plan on a canvas and with one row, in this look and with this stand-in, or null: the same five numbers and bytes, and the row is the
+ * canvas' last; with every room up to what is needed, and a row that is one cell short. */
+static void same_in_rows(const struct plan *p, uint32_t look, const void *standin, size_t bytes) {
+    struct lent canvas = lend(4 * CELLS), out = lend(5 * CELLS);
+    struct girthladder_answer a = stood(look, p, standin, bytes, &canvas, &out);
+    CHECK(a.number == GIRTHLADDER_DONE);
+    size_t width = (size_t)a.width, height = (size_t)a.height, size = (size_t)a.second;
+    const uint8_t *last = canvas.at + 4 * width * (height - 1);
+    for (size_t more = 0; more < 3; more++) {
+        struct lent row = lend(4 * (width + more)), out2 = lend(more ? 5 * CELLS : size);
+        struct girthladder_answer b = rowed(p, look, standin, bytes, &row, &out2, 0);
+        CHECK(memcmp(&a, &b, sizeof a) == 0 && memcmp(out.at, out2.at, size) == 0 && marked(&out2, size));
+        CHECK(memcmp(row.at, last, 4 * width) == 0 && marked(&row, 4 * width));
+        give_back(&row);
+        give_back(&out2);
+    }
+    for (size_t room = 0; room < size; room++) {
+        struct lent row = lend(4 * width), less = lend(room);
+        CHECK(is(rowed(p, look, standin, bytes, &row, &less, 0), GIRTHLADDER_ROOM, size) && marked(&less, 0) && memcmp(row.at, last, 4 * width) == 0);
+        give_back(&row);
+        give_back(&less);
+    }
+    struct lent narrow = lend(4 * (width - 1));
+    CHECK(is(rowed(p, look, standin, bytes, &narrow, &out, 0), GIRTHLADDER_CANVAS, width) && marked(&narrow, 0) && marked(&out, size));
+    give_back(&narrow);
+    give_back(&canvas);
+    give_back(&out);
+}
+
+/* Letters, Greek, a plan whose titles are missing in the middle, a last level without any, two lines, several roots. */
+static void each_in_rows(void) {
+    const uint32_t three[] = {0, 0, 1, 1, 1, 1, 1, 2, 1}, alone[] = {0, 0, 2}, lost[] = {0, 0, 1, 1, 1, 0, 2, 1, 1}, bare_end[] = {0, 0, 1, 1, 1, 0};
+    const uint32_t lines[] = {0, 0, 3, 1, 0, 1}, roots[] = {0, 0, 1, 0, 1, 0, 0, 1, 1};
+    struct plan letters = plan(three, 9, "abc", 3), greek = plan(alone, 3, "\xCF\x80", 2), missing = plan(lost, 9, "ab", 2), end = plan(bare_end, 6, "a", 1);
+    struct plan two = plan(lines, 6, "a\nb", 3), forest = plan(roots, 9, "ab", 2), bad = plan(three, 9, "a\x7F\xFF", 3);
+    struct plan *all[] = {&letters, &missing, &end, &two, &forest, &greek};
+    for (size_t k = 0; k < 6; k++)
+        for (uint32_t look = 0; look < (k < 5 ? 4 : 2); look++) {
+            same_in_rows(all[k], look, NULL, 0);
+            same_in_rows(all[k], look, "?\n-", 3);
+        }
+    /* 6, then 12, then 17; then 8, which is the width here; no memory changes */
+    struct lent row = lend(4 * 18), out = lend(BYTES);
+    CHECK(is(rowed(&bad, 2, "", 0, &row, &out, 0), GIRTHLADDER_UTF8, 2) && is(rowed(&greek, 2, "", 0, &row, &out, 0), GIRTHLADDER_STANDIN, 0));
+    CHECK(is(rowed(&greek, 2, "\xC3\xA9", 2, &row, &out, 0), GIRTHLADDER_STANDIN, 0) && is(rowed(&greek, 2, "?", 1, &row, &out, 0), GIRTHLADDER_NOT_PLAIN, 0));
+    row.size = 0;
+    CHECK(is(rowed(&letters, 2, "?", 1, &row, &out, 0), GIRTHLADDER_CANVAS, 18) && is(rowed(&greek, 1, NULL, 0, &row, &out, 0), GIRTHLADDER_CANVAS, 11));
+    row.size = 4 * 18;
+    CHECK(marked(&row, 0) && marked(&out, 0));
+    /* any `given` but 0 is a stand-in; with 0 it is not looked at */
+    struct girthladder_answer a;
+    girthladder_rows_with((const uint32_t *)letters.table.at, 9, letters.titles.at, 3, 0, 0x80000000, NULL, 0, NULL, 0, NULL, 0, &a);
+    CHECK(is(a, GIRTHLADDER_STANDIN, 0));
+    girthladder_rows_with((const uint32_t *)letters.table.at, 9, letters.titles.at, 3, 0, 0, (const uint8_t *)"\xFF", 1, NULL, 0, NULL, 0, &a);
+    CHECK(is(a, GIRTHLADDER_CANVAS, 18));
+    give_back(&row);
+    give_back(&out);
+    for (size_t k = 0; k < 6; k++) forget(all[k]);
+    forget(&bad);
 }
 
 static void each_refusal(void) {
@@ -540,6 +642,8 @@ int main(void) {
         for (size_t cells = 0; cells < CELLS + 20; cells++) example(&p, cells, BYTES, null);
         for (size_t room = 0; room < BYTES + 20; room++) example(&p, CELLS, room, null);
         example(&p, CELLS + 9, 5 * CELLS, null);
+        for (size_t cells = 0; cells < 40; cells++) example_in_rows(&p, cells, BYTES, null);
+        for (size_t room = 0; room < 5 * CELLS; room++) example_in_rows(&p, 18 + room % 2, room, null);
         for (size_t room = 0; room < sizeof bare + 20; room++) graphed(girthladder_dot, bare, sizeof bare - 1, &p, room, null);
         for (size_t room = 0; room < sizeof fenced + 20; room++) graphed(girthladder_fenced, fenced, sizeof fenced - 1, &p, room, null);
         graphed(girthladder_dot, "graph {\n    \n}", 14, &empty, 14, null);
@@ -556,6 +660,7 @@ int main(void) {
     each_plain_look();
     each_byte();
     each_standin();
+    each_in_rows();
     each_refusal();
     each_reading();
     each_reason();

@@ -1,7 +1,10 @@
 //! The same on lent memory: nothing is allocated. A table has three numbers a node, as [`Plan::parts`](crate::Plan::parts) gives them;
 //! any table, any titles and any lengths are taken.
 
+mod rows;
+
 use crate::{Fits, Look, Reason, Refusal};
+pub use rows::{rows, rows_with};
 
 // girthladder.h. An empty slice's pointer is never read through.
 extern "C" {
@@ -81,9 +84,9 @@ extern "C" {
 pub struct Drawing {
     /// How many bytes of the output hold the text.
     pub bytes: usize,
-    /// Cells in a row of the canvas.
+    /// Cells in a row of the drawing.
     pub width: usize,
-    /// Rows of the canvas.
+    /// Rows of the drawing.
     pub height: usize,
     /// Nodes with an empty title.
     pub untitled: usize,

@@ -32,7 +32,8 @@
 //! assert!(text.contains("│ (no title) │"));
 //! ```
 //!
-//! [`why`] says of a step in the drawing why it is drawn where it is, and [`fits`] whether a drawing fits the screen.
+//! [`draw_rows`] draws the same with one row of cells in place of a canvas. [`why`] says of a step in the drawing why it is drawn where it
+//! is, and [`fits`] whether a drawing fits the screen.
 
 mod fits;
 mod look;
@@ -71,6 +72,29 @@ pub fn draw_as(plan: &Plan, look: Look) -> Result<String, Refusal> {
 /// refused; `None` is none.
 pub fn draw_with(plan: &Plan, look: Look, standin: Option<&str>) -> Result<String, Refusal> {
     drawn(plan, |table, titles, canvas, out| lent::text_with(table, titles, look, standin.map(str::as_bytes), canvas, out))
+}
+
+/// The drawing of [`draw_with`], made row by row: it takes no more memory than one row of cells and the text.
+///
+/// ```
+/// use girthladder::{Look, Plan};
+/// let plan: Plan = [(0, "a"), (1, "b"), (1, "c")].into_iter().collect();
+/// assert_eq!(girthladder::draw_rows(&plan, Look::new(), None), girthladder::draw(&plan));
+/// ```
+pub fn draw_rows(plan: &Plan, look: Look, standin: Option<&str>) -> Result<String, Refusal> {
+    let (table, titles) = plan.parts();
+    let rows = |row: &mut [u32], out: &mut [u8]| lent::rows_with(table, titles, look, standin.map(str::as_bytes), row, out);
+    let mut row = match rows(&mut [], &mut []) {
+        Err(Refusal::Row { needed }) => vec![0; needed],
+        Err(refusal) => return Err(refusal),
+        Ok(_) => unreachable!("a drawing has cells"),
+    };
+    let mut out = match rows(&mut row, &mut []) {
+        Err(Refusal::Room { needed }) => vec![0; needed],
+        other => unreachable!("a drawing has bytes: {other:?}"),
+    };
+    rows(&mut row, &mut out)?;
+    Ok(text_of(out))
 }
 
 /// The graph as the crate polars-plan writes it, titles as they are.

@@ -27,6 +27,8 @@ pub enum Refusal {
     Large,
     /// 8: the lent canvas is too short; drawing and reading.
     Canvas { needed: usize },
+    /// 8: the lent row is shorter than the drawing is wide, which is `needed` cells; drawing row by row only.
+    Row { needed: usize },
     /// 9: the lent output is too short.
     Room { needed: usize },
     /// 6: the picture is not valid UTF-8; reading only.
@@ -53,6 +55,7 @@ impl Refusal {
             Refusal::Plain { .. } => 17,
             Refusal::Large => 7,
             Refusal::Canvas { .. } => 8,
+            Refusal::Row { .. } => 8,
             Refusal::Room { .. } => 9,
             Refusal::NotText => 6,
             Refusal::Short { .. } => 9,
@@ -121,6 +124,7 @@ impl fmt::Display for Refusal {
             Refusal::Plain { node } => write!(f, "the title of node {node} has a byte that is not printed in plain characters: only 20 to 7E and line breaks are"),
             Refusal::Large => write!(f, "the drawing has more than {} cells", crate::MOST_CELLS),
             Refusal::Canvas { needed } => write!(f, "the canvas is too short: the drawing needs {needed} cells"),
+            Refusal::Row { needed } => write!(f, "the row is too short: the drawing is {needed} cells wide"),
             Refusal::Room { needed } => write!(f, "the output is too short: {needed} bytes are needed"),
             Refusal::NotText => write!(f, "the picture is not valid UTF-8"),
             Refusal::Short { needed } => write!(f, "the table or the titles are too short: {needed} entries, or else bytes, are needed"),

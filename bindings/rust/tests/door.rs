@@ -1,5 +1,5 @@
-//! Document 01's example and every refusal, through `draw`, `dot`, `fenced`, `read`, `why`, `fits` and on lent memory with marked numbers around each buffer.
-use girthladder::{dot, dot_with, draw, draw_as, draw_with, fenced, fenced_with, fits, lent, read, read_as, why, Fits, Look, Plan, Reason, Refusal};
+//! Document 01's example and every refusal, through `draw`, `draw_rows`, `dot`, `fenced`, `read`, `why`, `fits` and on lent memory with marked numbers around each buffer.
+use girthladder::{dot, dot_with, draw, draw_as, draw_rows, draw_with, fenced, fenced_with, fits, lent, read, read_as, why, Fits, Look, Plan, Reason, Refusal};
 
 const PICTURE: &str = "        0      1
    ┌──────────────
@@ -375,6 +375,84 @@ fn does_it_fit_the_screen() {
     assert_eq!(draw(&large), Err(Refusal::Large));
     assert_eq!(fits(&large, u32::MAX, u32::MAX), Fits { yes: true, read: 256, refusal: None });
     assert_eq!(fits(&large, 2000, 24), Fits { yes: false, read: 1, refusal: None });
+}
+
+// Draws with one row in the middle of marked memory, and looks that what lies around it and the output is marked still.
+fn guarded_rows(table: &[u32], titles: &[u8], look: Look, standin: Option<&[u8]>, cells: usize, room: usize) -> (Result<lent::Drawing, Refusal>, Vec<u32>, Vec<u8>) {
+    let (mut row, mut out) = (vec![0xA5A5A5A5u32; cells + 2 * MARGIN], vec![0xA5u8; room + 2 * MARGIN]);
+    let answer = lent::rows_with(table, titles, look, standin, &mut row[MARGIN..MARGIN + cells], &mut out[MARGIN..MARGIN + room]);
+    assert!(unchanged(&row[..MARGIN], &out[..MARGIN]) && unchanged(&row[MARGIN + cells..], &out[MARGIN + room..]));
+    (answer, row[MARGIN..MARGIN + cells].to_vec(), out[MARGIN..MARGIN + room].to_vec())
+}
+
+#[test]
+fn drawing_without_the_canvas() {
+    let bytes = PICTURE.len();
+    let last: Vec<u32> = PICTURE.lines().last().unwrap().chars().map(u32::from).collect();
+    for cells in 0..40 {
+        for room in [0, bytes - 1, bytes, bytes + 1, 5 * CELLS] {
+            let (answer, row, out) = guarded_rows(&TABLE, b"abc", Look::new(), None, cells, room);
+            if cells < 18 {
+                assert_eq!(answer, Err(Refusal::Row { needed: 18 }));
+                assert!(unchanged(&row, &out));
+                continue;
+            }
+            assert!(row[..18] == last && unchanged(&row[18..], &[]));
+            if room < bytes {
+                assert_eq!(answer, Err(Refusal::Room { needed: bytes }));
+                assert!(unchanged(&[], &out));
+            } else {
+                assert_eq!(answer, Ok(lent::Drawing { bytes, width: 18, height: 12, untitled: 0 }));
+                assert!(out[..bytes] == *PICTURE.as_bytes() && unchanged(&[], &out[bytes..]));
+            }
+        }
+    }
+    let mut row = [0; 18];
+    assert_eq!(lent::rows(&TABLE, b"abc", &mut row, &mut []), Err(Refusal::Room { needed: bytes }));
+    let refusal = Refusal::Row { needed: 18 };
+    assert_eq!((refusal.number(), refusal.to_string()), (8, "the row is too short: the drawing is 18 cells wide".into()));
+}
+
+#[test]
+fn rows_are_those_of_the_canvas() {
+    let long = "x".repeat(1025);
+    let plans = [
+        example(),
+        plan(&[(0, "a"), (1, "b"), (1, ""), (2, "c"), (0, "")]),
+        plan(&[(0, ""), (1, ""), (1, "")]),
+        plan(&[(0, "SELECT\n\n[x]"), (1, "one\ntwo\nthree"), (2, "\n"), (1, "a "), (2, "")]),
+        plan(&[(0, "λόγος"), (1, "é\ne\u{301}"), (1, "𝄞𝄞"), (1, "a\u{3000}")]),
+        (0..32).map(|k| (k, format!("level {k}\nsecond line"))).collect(),
+        (0..256).map(|k| (usize::from(k > 0), format!("{k}"))).collect(),
+        // refused: no node, a depth, a title
+        Plan::new(),
+        plan(&[(0, "a"), (2, "b")]),
+        plan(&[(0, &long)]),
+        (0..256).map(|k| (usize::from(k > 0), &long[..1024])).collect(),
+    ];
+    for p in &plans {
+        for look in [Look::new(), Look::new().fitted(), Look::new().plain(), Look::new().fitted().plain()] {
+            for standin in [None, Some("?"), Some("no\ntitle"), Some("—"), Some(""), Some(long.as_str())] {
+                assert_eq!(draw_rows(p, look, standin), draw_with(p, look, standin));
+            }
+        }
+    }
+    // and what is left on lent memory
+    for p in &plans[..6] {
+        let (table, titles) = p.parts();
+        let (mut canvas, mut out) = (vec![0; 100_000], vec![0; 500_000]);
+        let drawing = lent::text_with(table, titles, Look::new(), Some(b"?"), &mut canvas, &mut out).unwrap();
+        let last = (drawing.height - 1) * drawing.width..drawing.height * drawing.width;
+        for room in [drawing.bytes, drawing.bytes + 9, 5 * canvas.len()] {
+            let (answer, row, text) = guarded_rows(table, titles, Look::new(), Some(b"?"), drawing.width + 5, room);
+            assert_eq!(answer, Ok(drawing));
+            assert!(row[..drawing.width] == canvas[last.clone()] && text[..drawing.bytes] == out[..drawing.bytes]);
+            assert!(unchanged(&row[drawing.width..], &text[drawing.bytes..]));
+        }
+    }
+    assert_eq!(lent::rows(&TABLE[..8], b"abc", &mut [0; 99], &mut []), Err(Refusal::Ragged { entries: 8 }));
+    assert_eq!(lent::rows(&TABLE, b"ab\xFF", &mut [], &mut []), Err(Refusal::Utf8 { node: 2 }));
+    assert_eq!(lent::rows_with(&TABLE, b"a\x7Fc", Look::new().plain(), Some(b"?"), &mut [], &mut []), Err(Refusal::Plain { node: 1 }));
 }
 
 // A stand-in for polars-plan's TreeFmtNode, handed over as the README shows.

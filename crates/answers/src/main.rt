@@ -2,6 +2,7 @@
 mod lent;
 mod line;
 mod question;
+mod row;
 
 ghost use Prim.Native.Nat.{_≤_};
 ghost use lib.ListN.{length};
@@ -22,6 +23,9 @@ pub fn bad() -> bool {
 // stand-in, for a drawing and for a graph.
 fn known(kind: u32, look: u32) -> bool {
     if kind == 0 {
+        return look < 8;
+    }
+    if kind == 5 {
         return look < 8;
     }
     if kind == 3 {
@@ -87,6 +91,10 @@ fn draw_plan<'a>(
 ) {
     if kind == 0 {
         line::print_drawing(drawing(look, table, titles, standin, cells, out));
+        return;
+    }
+    if kind == 5 {
+        line::print_drawing(row::drawing(look, table, titles, standin, cells, out));
         return;
     }
     line::print_graph(graph(kind, look, table, titles, standin, out));

@@ -173,7 +173,7 @@ pub fn bytes_to(row: &[u32], end: usize) -> usize
 }
 
 // The bytes of a row's text and its 0A.
-fn row_bytes(row: &[u32]) -> usize
+pub fn row_bytes(row: &[u32]) -> usize
     requires { ⌜ length (now row) ≤ 1048576 ⌝ }
     ensures { λ r. ⌜ r ≡ length (rowIn (now (row .entry))) ⌝ }
 {
@@ -369,7 +369,7 @@ pub fn write_to(row: &[u32], end: usize, out: &mut [u8], at: usize) -> usize
 }
 
 // Writes a row's text and its 0A from out[at] on, and answers the place after it.
-fn write_row(row: &[u32], out: &mut [u8], at: usize) -> usize
+pub fn write_row(row: &[u32], out: &mut [u8], at: usize) -> usize
     requires { ⌜ at + length (rowIn (now row)) ≤ length (now out) ⌝ }
     requires { ⌜ ((i : ℕ) → i < length (now row) → getD (now row) i 0 < 0x200000) ⌝ }
     ensures { λ r. ⌜ (r ≡ at + length (rowIn (now (row .entry)))) × (now (out .exit) ≡ sets (now (out .entry)) at (rowIn (now (row .entry)))) ⌝ }

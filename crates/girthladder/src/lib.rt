@@ -1,5 +1,6 @@
 // The door for C and Rust: drawing, graphs and reading on lent memory, and questions of a plan, the answer as five numbers.
 mod question;
+mod row;
 
 ghost use mathlib.Core.Path.{_≡_};
 ghost use lib.ListN.{length};
@@ -11,6 +12,8 @@ ghost use Rattle.rules.specs.Switches.{givenOf, lookIn};
 ghost use Rattle.girthladder.specs.Five.{drawingFive, graphFive, readingFive, ReadFive};
 pub use question::girthladder_fits;
 pub use question::girthladder_why;
+pub use row::girthladder_rows;
+pub use row::girthladder_rows_with;
 use rules::Answer;
 use rules::Drawing;
 use rules::Reading;

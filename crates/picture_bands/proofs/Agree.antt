@@ -10,11 +10,10 @@ use lib.ListN.{length, getD}
 use borrow.Author.Tests.{lt-ltb}
 use Rattle.rules.specs.Measures as M
 use Rattle.rules.specs.Base.{pick}
-use Rattle.rules.specs.Plan.{Node, depthIn}
+use Rattle.rules.specs.Plan.{Node}
 use Rattle.rules.specs.Levels.{view}
 use Rattle.rules.specs.Measures.{rowOffset, columnOffset}
 use Rattle.rules.specs.Drawing.{Marks}
-use Rattle.rules.proofs.Bounds.{column-below}
 use Rattle.marks.specs.Alike.{alikeIn}
 use Rattle.marks.specs.Spot.{spotMark}
 use Rattle.marks.specs.Whole.{markAt}
@@ -23,15 +22,14 @@ use Rattle.marks.proofs.Places.{left-low}
 use Rattle.marks.proofs.Picture.{Laid, laid}
 use Rattle.marks.proofs.Spots.{spot-field, mark-block}
 use Rattle.picture_sight.specs.Seen.{seen}
-use Rattle.tree_view.proofs.Limits.{columns-le, canvas-height-le}
-use Rattle.tree_view.proofs.Ruled.{view-columns}
-use Rattle.picture_bands.specs.Row.{Row, RowOf}
-use Rattle.picture_bands.specs.Strip.{spotIn, stripSame, stripsSame}
-use Rattle.picture_bands.specs.Parts.{columnFrom, rowFrom}
+use Rattle.row_strips.specs.Row.{Row, RowOf}
+use Rattle.row_strips.specs.Strip.{spotIn}
+use Rattle.row_strips.specs.Parts.{columnFrom, rowFrom}
+use Rattle.row_strips.proofs.Ranges.{column-part, row-part, column-stop, row-stop, row-bends, column-last, row-last}
+use Rattle.row_strips.proofs.Spots.{spotted}
+use Rattle.picture_bands.specs.Strip.{stripSame, stripsSame}
 use Rattle.picture_bands.specs.Ready.{Ready}
-use Rattle.picture_bands.proofs.Ranges.{column-part, row-part, column-stop, row-stop, row-bends, column-last, row-last}
 use Rattle.picture_bands.proofs.Strips.{strips-none, strips-next}
-use Rattle.picture_bands.proofs.Spots.{spotted}
 
 pub seen-at : (cells : List ℕ) (w h x y : ℕ) → x < w → y < h → seen cells w h x y ≡ getD cells (y * w + x) 0
 unfolding seen pick
@@ -40,13 +38,13 @@ seen-at cells w h x y a b = rw (lt-ltb x w a, lt-ltb y h b)
 module _ {len : List ℕ → ℕ} {marks : Marks} {p : List Node} (cells : List ℕ) {w h : ℕ} {T : List ℕ} {nodes : ℕ} {C L G cx xs : List ℕ} {ncols : ℕ} {cy ys : List ℕ} {nrows : ℕ}
     (q : Ready len marks p (seen cells w h) w h T nodes C L G cx xs ncols cy ys nrows) where
   drawn : Laid (view p)
-  drawn = laid len marks p (q .drawable)
+  drawn = laid len marks p (q .known .drawable)
 
   -- the rows from 3 on, before e, are as they are drawn
   abbrev pub agreed : (a b c e : ℕ) → Bool
   agreed a b c e = alikeIn (seen cells w h) (markAt len marks (view p)) a b c e
 
-  module _ (i : ℕ) (hi : i < view p .rows) (r : Row) (o : RowOf T nodes C ncols cy ys nrows h i r) where
+  module _ (i : ℕ) (hi : i < view p .rows) (r : Row) (o : RowOf T nodes C L ncols cy ys nrows h i r) where
     -- one column of row i
     strip-mark : (j : ℕ) → j < view p .columns
         → stripSame marks cells w r L G cx xs ncols j ≡ agreed (columnFrom len (view p) j) (columnFrom len (view p) (j + 1)) (rowFrom (view p) i) (rowFrom (view p) (i + 1))
@@ -54,19 +52,19 @@ module _ {len : List ℕ → ℕ} {marks : Marks} {p : List Node} (cells : List 
     strip-mark j hj =
         let c = column-part len marks (view p) j hj in
         let d = row-part len marks (view p) i hi in
-        let ea : getD xs j 0 ≡ columnFrom len (view p) j = q .numbers .x-is j hj ∙ sym (c .from-is) in
-        let eb = column-stop len marks (view p) (q .numbers) j hj in
-        let et : r .top ≡ rowFrom (view p) i = o .top-is ∙ q .numbers .y-is i hi ∙ sym (d .from-is) in
-        let ee : r .end ≡ rowFrom (view p) (i + 1) = o .end-is ∙ row-stop len marks (view p) (q .numbers) i hi in
-        let ww = q .numbers .wide in
-        let hh = q .numbers .high in
+        let ea : getD xs j 0 ≡ columnFrom len (view p) j = q .known .numbers .x-is j hj ∙ sym (c .from-is) in
+        let eb = column-stop len marks (view p) (q .known .numbers) j hj in
+        let et : r .top ≡ rowFrom (view p) i = o .top-is ∙ q .known .numbers .y-is i hi ∙ sym (d .from-is) in
+        let ee : r .end ≡ rowFrom (view p) (i + 1) = o .end-is ∙ row-stop len marks (view p) (q .known .numbers) i hi in
+        let ww = q .known .numbers .wide in
+        let hh = q .known .numbers .high in
         rw (ea, eb, et, ee)
         (in-same (λ x y. getD cells (y * w + x) 0) (λ x y. spotMark marks (spotIn r L G cx j) (getD cells (y * w + x) 0) x y) (seen cells w h) (markAt len marks (view p))
         (columnFrom len (view p) j) (columnFrom len (view p) (j + 1)) (rowFrom (view p) i) (rowFrom (view p) (i + 1))
         (λ x y a b e f. sym (seen-at cells w h x y (omega (arith, c .on-canvas)) (omega (arith, d .on-canvas))))
         (λ x y a b e f.
         ap (λ (k : ℕ). spotMark marks (spotIn r L G cx j) k x y) (sym (seen-at cells w h x y (omega (arith, c .on-canvas)) (omega (arith, d .on-canvas))))
-        ∙ spot-field len marks (q .lawful) (view p) (drawn .proper-view) (drawn .rising-view) (drawn .few-rows) (seen cells w h) (q .lettered) i j (spotIn r L G cx j) (spotted q i j hi hj r o) hi hj x y
+        ∙ spot-field len marks (q .known .lawful) (view p) (drawn .proper-view) (drawn .rising-view) (drawn .few-rows) (seen cells w h) (q .lettered) i j (spotIn r L G cx j) (spotted (q .known) i j hi hj r o) hi hj x y
         ∙ sym (mark-block len marks (view p) i j x y hi hj (omega (arith, c .from-is)) (omega (arith, c .to-most)) (omega (arith, d .from-is)) (omega (arith, d .to-most)))))
 
     -- its first m columns
@@ -90,15 +88,15 @@ module _ {len : List ℕ → ℕ} {marks : Marks} {p : List Node} (cells : List 
     -- and all
     pub band-mark : stripsSame marks cells w r L G cx xs ncols ncols ≡ agreed (M.d (view p) + 4) w (rowFrom (view p) i) (rowFrom (view p) (i + 1))
     band-mark =
-        let e : columnFrom len (view p) ncols ≡ w = ap (columnFrom len (view p)) (q .numbers .columns-are) ∙ column-last len marks (view p) ∙ sym (q .numbers .wide) in
-        strips-mark ncols (omega (arith, q .numbers .columns-are)) (drawn .proper-view .columned) ∙ rw e
+        let e : columnFrom len (view p) ncols ≡ w = ap (columnFrom len (view p)) (q .known .numbers .columns-are) ∙ column-last len marks (view p) ∙ sym (q .known .numbers .wide) in
+        strips-mark ncols (omega (arith, q .known .numbers .columns-are)) (drawn .proper-view .columned) ∙ rw e
 
     -- the row lies on the canvas
     pub row-fits : w * h ≤ length cells → (r .end * w ≤ length cells) × (r .top ≤ r .bend)
     row-fits f =
         let d = row-part len marks (view p) i hi in
-        let e : r .end ≤ h = omega (arith, o .end-is, row-stop len marks (view p) (q .numbers) i hi, d .on-canvas, q .numbers .high) in
-        (omega (arith, mul-le-mul-right w e, mul-comm w h), omega (arith, o .top-is, q .numbers .y-is i hi, o .bend-is, row-bends len marks (view p) (q .numbers) i hi))
+        let e : r .end ≤ h = omega (arith, o .end-is, row-stop len marks (view p) (q .known .numbers) i hi, d .on-canvas, q .known .numbers .high) in
+        (omega (arith, mul-le-mul-right w e, mul-comm w h), omega (arith, o .top-is, q .known .numbers .y-is i hi, o .bend-is, row-bends len marks (view p) (q .known .numbers) i hi))
 
   -- ---- row by row
   pub rows-none : agreed (M.d (view p) + 4) w 3 (rowFrom (view p) 0) ≡ true
@@ -115,7 +113,7 @@ module _ {len : List ℕ → ℕ} {marks : Marks} {p : List Node} (cells : List 
       ∙ rw (e, ← f)
 
   pub rows-all : (i : ℕ) → i ≡ view p .rows → rowFrom (view p) i ≡ h
-  rows-all i e = ap (rowFrom (view p)) e ∙ row-last len marks (view p) ∙ sym (q .numbers .high)
+  rows-all i e = ap (rowFrom (view p)) e ∙ row-last len marks (view p) ∙ sym (q .known .numbers .high)
 
   pub rows-not : (i : ℕ) → i < view p .rows → false ≡ agreed (M.d (view p) + 4) w (rowFrom (view p) i) (rowFrom (view p) (i + 1)) → false ≡ agreed (M.d (view p) + 4) w 3 h
   rows-not i hi f = go (agreed (M.d (view p) + 4) w 3 h) refl
@@ -127,34 +125,4 @@ module _ {len : List ℕ → ℕ} {marks : Marks} {p : List Node} (cells : List 
           absurd (false≢true (f
           ∙ in-if (seen cells w h) (markAt len marks (view p)) (M.d (view p) + 4) w (rowFrom (view p) i) (rowFrom (view p) (i + 1))
           (λ x y a b k l.
-          in-all (seen cells w h) (markAt len marks (view p)) (M.d (view p) + 4) w 3 h e x y a b (omega (arith, d .from-is, d .low)) (omega (arith, d .on-canvas, q .numbers .high)))))
-
-  -- ---- what a row is made of
-  pub record Made : Type 0 where
-    pub nodes-few : nodes ≤ 256
-    pub columns-some : 1 ≤ ncols
-    pub columns-few : ncols ≤ 256
-    pub rows-few : nrows ≤ 32
-    pub height-few : h < 4294967295
-    pub keys : (k : ℕ) → k < nodes → (depthIn T k < 32) × (getD C k 0 < 256)
-    pub gaps : (i : ℕ) → i + 1 < nrows → 2 ≤ getD ys (i + 1) 0
-
-  pub made : Made
-  made =
-      let n = q .counted in
-      let s = q .small in
-      record {
-        nodes-few = omega (arith, s .nodes);
-        columns-some = omega (arith, q .numbers .columns-are, drawn .proper-view .columned);
-        columns-few = omega (arith, q .numbers .columns-are, columns-le p s);
-        rows-few = omega (arith, q .numbers .rows-are, drawn .few-rows);
-        height-few = omega (arith, q .numbers .high, canvas-height-le p s);
-        keys =
-            λ k b.
-            (omega (arith, q .depths k b, s .depths k (omega arith)), omega (arith, q .columns k b, column-below p k (omega arith), view-columns p, columns-le p s));
-        gaps =
-            λ i b.
-            let m = q .numbers .rows-are in
-            let d = row-part len marks (view p) (i + 1) (omega arith) in
-            omega (arith, q .numbers .y-is (i + 1) (omega arith), d .low);
-      }
+          in-all (seen cells w h) (markAt len marks (view p)) (M.d (view p) + 4) w 3 h e x y a b (omega (arith, d .from-is, d .low)) (omega (arith, d .on-canvas, q .known .numbers .high)))))

@@ -3,7 +3,6 @@ use mathlib.Core.Path.{_≡_, refl, ap, sym, _∙_}
 use mathlib.Core.List.{List}
 use mathlib.Core.Bool.{Bool, true, false, _&&_, _||_, false≢true, and-true}
 use Prim.Native.Nat.{ℕ, _+_, _-_, _*_, _≤_, _<_}
-use native.Mathlib.Numerals.{add-one}
 use native.Mathlib.Omega.{arith}
 use lib.ListN.{getD}
 use Rattle.rules.specs.Base.{every, halfUp}
@@ -13,21 +12,23 @@ use Rattle.marks.specs.Alike.{alikeIn}
 use Rattle.marks.specs.Spot.{Spot, spotMark}
 use Rattle.marks.specs.Numbers.{endAt}
 use Rattle.marks.proofs.Alike.{every-split, every-all}
-use Rattle.picture_field.specs.declared.spot.Spot as F
-use Rattle.picture_field.specs.Fits.{plain, Fits}
-use Rattle.picture_bands.specs.Row.{Row, some, seenTo}
-use Rattle.picture_bands.specs.Strip.{sizeOf, spotBy, spotIn, stripSame, stripsSame, Room}
+use Rattle.row_shapes.specs.declared.spot.Spot as F
+use Rattle.row_shapes.specs.Plain.{plain}
+use Rattle.row_strips.specs.Row.{Row, some, seenTo}
+use Rattle.row_strips.specs.Strip.{sizeOf, spotOf, spotIn, Room}
+use Rattle.picture_field.specs.Fits.{Fits}
+use Rattle.picture_bands.specs.Strip.{stripSame, stripsSame}
 
 pub fits-spot : (s : F.Spot) (width : ℕ) (r : Row) (a b x n t : ℕ) (cell up child on : Bool)
-    → plain s ≡ spotBy cell up child on (r .bend) x (r .middle) n t → Room width r a b x n t cell → r .top ≤ r .bend → Fits s a b (r .top) (r .end)
+    → s ≡ spotOf cell up child on (r .bend) x (r .middle) n t → Room width r a b x n t cell → r .top ≤ r .bend → Fits s a b (r .top) (r .end)
 unfolding halfUp
 fits-spot s width r a b x n t cell up child on e q h =
-    let li : s .line ≡ x - 1 = ap (λ (z : Spot). z .line) e in
-    let be : s .bend ≡ r .bend = ap (λ (z : Spot). z .bend) e in
-    let le = ap (λ (z : Spot). z .left) e in
-    let ri = ap (λ (z : Spot). z .right) e in
-    let to = ap (λ (z : Spot). z .top) e in
-    let bo = ap (λ (z : Spot). z .bottom) e in
+    let li : s .line ≡ x - 1 = ap (λ (z : F.Spot). z .line) e in
+    let be : s .bend ≡ r .bend = ap (λ (z : F.Spot). z .bend) e in
+    let le = ap (λ (z : F.Spot). z .left) e in
+    let ri = ap (λ (z : F.Spot). z .right) e in
+    let to = ap (λ (z : F.Spot). z .top) e in
+    let bo = ap (λ (z : F.Spot). z .bottom) e in
     let l = q .left-room in
     let m = q .right-room in
     record {
@@ -38,7 +39,7 @@ fits-spot s width r a b x n t cell up child on e q h =
       bend-from = omega arith;
       stands =
           λ z.
-          let w = q .stands (sym (ap (λ (z : Spot). z .joint .parent) e) ∙ z) in
+          let w = q .stands (sym (ap (λ (z : F.Spot). z .cell) e) ∙ z) in
           let u = q .top-room in
           let below = w .below in
           let lined = w .lined in
@@ -47,23 +48,18 @@ fits-spot s width r a b x n t cell up child on e q h =
           record { below = omega arith; lined = omega arith; within = omega arith; bends = omega arith };
     }
 
--- the tests of one column more
-pub seen-step : (l : List ℕ) (j : ℕ) (b : Bool) → b ≡ seenTo l j → (b || some l j) ≡ seenTo l (j + 1)
-unfolding seenTo
-seen-step l j b e = rw (add-one j, e)
-
 module _ (marks : Marks) (cells : List ℕ) (width : ℕ) (r : Row) (lines longest cx xs : List ℕ) (ncols : ℕ) where
   -- the answer for column j, by the flags before it and what was asked of its node
   pub strip-is : (j b n t : ℕ) (s : F.Spot) (seen over same : Bool) → seen ≡ seenTo (r .here) j → over ≡ seenTo (r .above) j
       → n ≡ sizeOf lines (getD (r .here) j 0) → t ≡ sizeOf longest (getD (r .here) j 0)
-      → plain s
-      ≡ spotBy (some (r .here) j) ((over || some (r .above) j) && some (r .here) j) ((seen || some (r .here) j) && some (r .next) j) ((seen || some (r .here) j) && some (r .on) j) (r .bend) (getD cx j 0) (r .middle) n t
+      → s
+      ≡ spotOf (some (r .here) j) ((over || some (r .above) j) && some (r .here) j) ((seen || some (r .here) j) && some (r .next) j) ((seen || some (r .here) j) && some (r .on) j) (r .bend) (getD cx j 0) (r .middle) n t
       → b ≡ endAt xs ncols width j
       → same ≡ alikeIn (λ x y. getD cells (y * width + x) 0) (λ x y. spotMark marks (plain s) (getD cells (y * width + x) 0) x y) (getD xs j 0) b (r .top) (r .end)
       → same ≡ stripSame marks cells width r lines longest cx xs ncols j
   unfolding stripSame seenTo
   strip-is j b n t s seen over same ee eo en et es eb e =
-      let z : plain s ≡ spotIn r lines longest cx j = es ∙ rw (ee, eo, en, et) in
+      let z : plain s ≡ spotIn r lines longest cx j = ap plain es ∙ rw (ee, eo, en, et) in
       e
       ∙ ap (λ (q : Spot). alikeIn (λ x y. getD cells (y * width + x) 0) (λ x y. spotMark marks q (getD cells (y * width + x) 0) x y) (getD xs j 0) b (r .top) (r .end)) z
       ∙ rw eb

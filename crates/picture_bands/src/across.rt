@@ -1,28 +1,12 @@
 // One band and the gap under it, column by column.
 ghost use mathlib.Core.Path.{_≡_};
-ghost use mathlib.Core.Bool.{not};
-ghost use Prim.Native.Nat.{ℕ, _+_, _*_, _/_, _^_, _≤_, _<_};
-ghost use lib.Dec.{eqb};
+ghost use Prim.Native.Nat.{ℕ, _*_, _≤_, _<_};
 ghost use lib.ListN.{length};
-ghost use Rattle.rules.specs.Base.{halfUp};
 ghost use Rattle.rules.specs.Look.{marksIn};
-ghost use Rattle.marks.specs.Numbers.{endAt};
-ghost use Rattle.picture_field.specs.Fits.{plain};
-ghost use Rattle.picture_bands.specs.Row.{rowBy};
-ghost use Rattle.picture_bands.specs.Strip.{sizeOf, spotBy, stripsSame, Apt};
-use picture_field::Spot;
+ghost use Rattle.row_strips.specs.Row.{rowBy};
+ghost use Rattle.row_strips.specs.Strip.{sizeOf, Apt};
+ghost use Rattle.picture_bands.specs.Strip.{stripsSame};
 use rules::Glyphs;
-
-// Where column j ends: where the next one begins, the last with the canvas.
-fn column_end(xs: &[u32; 256], ncols: u32, j: usize, width: u32) -> u32
-    requires { ⌜ (j < ncols) × (ncols ≤ 256) ⌝ }
-    ensures { λ r. ⌜ r ≡ endAt (now (xs .entry)) ncols width j ⌝ }
-{
-    if j + 1 < text::wide(ncols) {
-        return xs[j + 1];
-    }
-    width
-}
 
 // What a list has of node k - 1; 0 where k is 0.
 fn size_of(sizes: &[u32; 256], k: usize) -> u32
@@ -33,37 +17,6 @@ fn size_of(sizes: &[u32; 256], k: usize) -> u32
         return 0;
     }
     sizes[k - 1]
-}
-
-// The spot of node k - 1, of n lines, the longest of t, centred at (cx, cy); of no cell where k is 0.
-fn spot_of(
-    k: usize,
-    up: bool,
-    child: bool,
-    on: bool,
-    bend: u32,
-    cx: u32,
-    cy: u32,
-    n: u32,
-    t: u32,
-) -> Spot
-    requires { ⌜ (halfUp t + 2 ≤ cx) × (cx + t + 3 < 2 ^ 32) ⌝ }
-    requires { ⌜ (n / 2 + 1 ≤ cy) × (cy + n < 2 ^ 32) ⌝ }
-    ensures { λ r. ⌜ plain r ≡ spotBy (not (eqb k 0)) up child on bend cx cy n t ⌝ }
-{
-    let f = tree_view::frame_of(cx, cy, n, t);
-    Spot {
-        cell: k != 0,
-        up,
-        child,
-        on,
-        line: cx - 1,
-        bend,
-        left: f.left,
-        top: f.top,
-        right: f.right,
-        bottom: f.bottom,
-    }
 }
 
 // The marks in all columns of a row are those of their spots.
@@ -99,8 +52,8 @@ pub(crate) fn columns_same(
         over = over | (above[j] != 0);
         let child = seen & (next[j] != 0);
         let onward = seen & (on[j] != 0);
-        let s = spot_of(
-            k,
+        let s = row_strips::spot_of(
+            k != 0,
             over & (k != 0),
             child,
             onward,
@@ -110,7 +63,7 @@ pub(crate) fn columns_same(
             size_of(lines, k),
             size_of(longest, k),
         );
-        let b = column_end(xs, ncols, j, width);
+        let b = row_strips::column_end(xs, ncols, j, width);
         if picture_field::block_same(cells, width, g, s, xs[j], b, top, end) {
             j += 1;
         } else {

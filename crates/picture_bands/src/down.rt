@@ -9,18 +9,14 @@ ghost use Rattle.marks.specs.Alike.{alikeIn};
 ghost use Rattle.marks.specs.Whole.{markAt};
 ghost use Rattle.picture_sight.specs.Seen.{seen};
 ghost use Rattle.picture_sight.specs.Plan.{planSeen};
-ghost use Rattle.picture_bands.specs.Row.{nodesIn};
-ghost use Rattle.picture_bands.specs.Parts.{rowFrom};
+ghost use Rattle.row_strips.specs.Row.{cellsIn};
+ghost use Rattle.row_strips.specs.Parts.{rowFrom};
 ghost use Rattle.picture_bands.specs.Ready.{Ready};
 use crate::across::columns_same;
-use crate::nodes::onward;
-use crate::nodes::row_cells;
-use crate::row::row_bend;
-use crate::row::row_end;
 use rules::Glyphs;
 use rules::Measure;
 
-// The band of row i and the gap under it are as they are drawn, right of the axis; `above` and `here` are the nodes of the row above and of row i, and `next` becomes those of the next.
+// The band of row i and the gap under it are as they are drawn, right of the axis; `above` and `here` are the cells of the row above and of row i, and `next` becomes those of the next.
 fn band_same(
     cells: &[u32],
     width: u32,
@@ -45,18 +41,16 @@ fn band_same(
     on: &mut [u16; 256],
 ) -> bool
     requires { ⌜ (width * height ≤ length (now cells)) × (i < nrows) × (length (now on) ≡ 256) ⌝ }
-    requires { ⌜ (now above ≡ nodesIn (now table) (now column) i nodes) × (now here ≡ nodesIn (now table) (now column) (i + 1) nodes) ⌝ }
+    requires { ⌜ (now above ≡ cellsIn (now table) (now column) (now lines) i nodes) × (now here ≡ cellsIn (now table) (now column) (now lines) (i + 1) nodes) ⌝ }
     requires { ⌜ Ready (lenOf measure) (marksIn g) (planSeen (marksIn g) (now cells) width height) (seen (now cells) width height) width height (now table) nodes (now column) (now lines) (now longest) (now cx) (now xs) ncols (now cy) (now ys) nrows ⌝ }
     ensures { λ r. ⌜ r ≡ alikeIn (seen (now (cells .entry)) width height) (markAt (lenOf measure) (marksIn g) (view (planSeen (marksIn g) (now (cells .entry)) width height)))
         (d (view (planSeen (marksIn g) (now (cells .entry)) width height)) + 4) width
         (rowFrom (view (planSeen (marksIn g) (now (cells .entry)) width height)) i) (rowFrom (view (planSeen (marksIn g) (now (cells .entry)) width height)) (i + 1)) ⌝ }
-    ensures { λ r. ⌜ (now (next .exit) ≡ nodesIn (now (table .entry)) (now (column .entry)) (i + 2) nodes) × (length (now (on .exit)) ≡ 256) ⌝ }
+    ensures { λ r. ⌜ (now (next .exit) ≡ cellsIn (now (table .entry)) (now (column .entry)) (now (lines .entry)) (i + 2) nodes) × (length (now (on .exit)) ≡ 256) ⌝ }
 {
-    row_cells(table, nodes, column, i + 2, next);
-    onward(here, next, ncols, on);
-    let k = text::wide(i);
-    let end = row_end(ys, nrows, i, height);
-    let bend = row_bend(ys, nrows, i, height);
+    row_strips::row_cells(table, nodes, column, lines, i + 2, next);
+    row_strips::onward(here, next, ncols, on);
+    let b = row_strips::band_of(cy, ys, nrows, i, height);
     columns_same(
         cells,
         width,
@@ -65,10 +59,10 @@ fn band_same(
         here,
         next,
         on,
-        ys[k],
-        end,
-        bend,
-        cy[k],
+        b.top,
+        b.end,
+        b.bend,
+        b.middle,
         lines,
         longest,
         cx,
@@ -105,7 +99,7 @@ pub fn bands_same(
     let mut here = [0u16; 256];
     let mut next = [0u16; 256];
     let mut on = [0u16; 256];
-    row_cells(table, nodes, column, 1, &mut here);
+    row_strips::row_cells(table, nodes, column, lines, 1, &mut here);
     let mut i = 0;
     while i < nrows {
         if band_same(

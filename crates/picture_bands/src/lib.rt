@@ -1,7 +1,5 @@
 // All bands of a picture, and the gaps under them, compared with what is drawn of a plan right of the axis.
 mod across;
 mod down;
-mod nodes;
-mod row;
 
 pub use down::bands_same;

@@ -7,12 +7,12 @@ use native.Mathlib.Omega.{arith}
 use Rattle.rules.specs.Drawing.{Marks}
 use Rattle.marks.specs.Alike.{alike, alikeIn}
 use Rattle.marks.proofs.Alike.{in-split, in-one, in-same, alike-same}
-use Rattle.picture_field.specs.declared.spot.Spot.{Spot}
+use Rattle.row_shapes.specs.declared.spot.Spot.{Spot}
 use Rattle.picture_field.specs.Fits.{Stands, markIn, spotIn}
 use Rattle.picture_field.specs.Span.{Ordered, spanOf, rowIn}
-use Rattle.picture_field.specs.Rows.{wireMark, edgeMark, textMark}
-use Rattle.picture_field.specs.Shapes.{straight, footWire, bendWire, topEdge, bottomEdge}
-use Rattle.picture_field.proofs.Spots.{head-row, top-row, text-row-at, bottom-row, foot-row, bend-row, below-row}
+use Rattle.row_shapes.specs.Rows.{wireMark, edgeMark, textMark}
+use Rattle.row_shapes.specs.Shapes.{straight, footWire, bendWire, topEdge, bottomEdge}
+use Rattle.row_shapes.proofs.Spots.{head-row, top-row, text-row-at, bottom-row, foot-row, bend-row, below-row}
 
 -- a test does not both hold and fail
 pub neither : (t : Bool) → t ≡ true → t ≡ false → ⊥

@@ -7,16 +7,17 @@ use Prim.Native.Nat.{ℕ, suc, zero, _+_, _-_, _≤_, _<_}
 use native.Mathlib.Omega.{arith}
 use lib.Dec.{eqb}
 use lib.ListN.{getD}
-use borrow.Author.Tests.{lt-ltb, le-ltb, eq-eqb, ne-eqb}
-use Rattle.rules.specs.Base.{pick, every}
+use borrow.Author.Tests.{eq-eqb, ne-eqb}
+use Rattle.rules.specs.Base.{every}
 use Rattle.rules.proofs.Candidate.{from}
 use Rattle.marks.specs.Alike.{alike}
 use Rattle.marks.proofs.Alike.{alike-first, alike-split, alike-one, alike-same, alike-if}
-use Rattle.picture_field.specs.declared.shape.Wire.{Wire}
-use Rattle.picture_field.specs.declared.shape.Edge.{Edge}
-use Rattle.picture_field.specs.declared.shape.Span.{Span}
+use Rattle.row_shapes.specs.declared.shape.Wire.{Wire}
+use Rattle.row_shapes.specs.declared.shape.Edge.{Edge}
+use Rattle.picture_field.specs.declared.span.Span.{Span}
 use Rattle.picture_field.specs.Span.{Ordered, rowIn}
-use Rattle.picture_field.specs.Rows.{wireMark, edgeMark, textMark}
+use Rattle.row_shapes.specs.Rows.{wireMark, edgeMark, textMark}
+use Rattle.row_shapes.proofs.Places.{wire-before, wire-line, wire-next, wire-after, edge-out-left, edge-left, edge-inner, edge-line, edge-next, edge-tail, edge-right, edge-out-right, text-out-left, text-left, text-first, text-own, text-last, text-right, text-out-right}
 
 -- ---- a run of one mark, cell by cell
 module _ (f g : ℕ → ℕ) where
@@ -72,22 +73,6 @@ ends-last false true false s = refl
 ends-last false false r s = refl
 
 module _ (w : Wire) (l : ℕ) where
-  pub wire-before : (x : ℕ) → x < l → wireMark w l x ≡ w .before
-  unfolding wireMark pick
-  wire-before x h = rw (lt-ltb x l h)
-
-  pub wire-line : wireMark w l l ≡ w .line
-  unfolding wireMark pick
-  wire-line = rw (le-ltb l l (omega arith), eq-eqb l l refl)
-
-  pub wire-next : wireMark w l (l + 1) ≡ w .next
-  unfolding wireMark pick
-  wire-next = rw (le-ltb (l + 1) l (omega arith), ne-eqb (l + 1) l (λ e. absurd (omega arith)), eq-eqb (l + 1) (l + 1) refl)
-
-  pub wire-after : (x : ℕ) → l + 2 ≤ x → wireMark w l x ≡ w .after
-  unfolding wireMark pick
-  wire-after x h = rw (le-ltb x l (omega arith), ne-eqb x l (λ e. absurd (omega arith)), ne-eqb x (l + 1) (λ e. absurd (omega arith)))
-
   pub wire-row : (f : ℕ → ℕ) (a b : ℕ) → a ≤ l → l + 1 < b
       → alike f (wireMark w l) a b
       ≡ (eqb (f l) (w .line) && (eqb (f (l + 1)) (w .next) && (alike f (λ _. w .before) a l && alike f (λ _. w .after) (l + 2) b)))
@@ -99,10 +84,10 @@ module _ (w : Wire) (l : ℕ) where
         alike-split f g (l + 1) (l + 2) b (omega arith) (omega arith),
         alike-one f g l (l + 1) (omega arith),
         alike-one f g (l + 1) (l + 2) (omega arith),
-        wire-line,
-        wire-next,
-        run-of f g (w .before) a l (λ x p q. wire-before x q),
-        run-of f g (w .after) (l + 2) b (λ x p q. wire-after x p),
+        wire-line w l,
+        wire-next w l,
+        run-of f g (w .before) a l (λ x p q. wire-before w l x q),
+        run-of f g (w .after) (l + 2) b (λ x p q. wire-after w l x p),
       )
       (ends-last (alike f (λ _. w .before) a l) (eqb (f l) (w .line)) (eqb (f (l + 1)) (w .next)) (alike f (λ _. w .after) (l + 2) b))
 
@@ -120,75 +105,7 @@ ends-first true true true true false true = refl
 ends-first true true true true true false = refl
 ends-first true true true true true true = refl
 
-pub edge-out-left : (e : Edge) (X l R x : ℕ) → x < X → edgeMark e X l R x ≡ 0x20
-unfolding edgeMark pick
-edge-out-left e X l R x h = rw (lt-ltb x X h)
-
 module _ (e : Edge) (X l R : ℕ) (inner : X < l) (outer : l + 1 < R) where
-  pub edge-left : edgeMark e X l R X ≡ e .left
-  unfolding edgeMark pick
-  edge-left = rw (le-ltb X X (omega arith), eq-eqb X X refl)
-
-  pub edge-inner : (x : ℕ) → X + 1 ≤ x → x < l → edgeMark e X l R x ≡ e .between
-  unfolding edgeMark pick
-  edge-inner x p q =
-      rw (
-        le-ltb x X (omega arith),
-        ne-eqb x X (λ e. absurd (omega arith)),
-        ne-eqb x l (λ e. absurd (omega arith)),
-        ne-eqb x (l + 1) (λ e. absurd (omega arith)),
-        lt-ltb x R (omega arith),
-      )
-
-  pub edge-line : edgeMark e X l R l ≡ e .line
-  unfolding edgeMark pick
-  edge-line = rw (le-ltb l X (omega arith), ne-eqb l X (λ e. absurd (omega arith)), eq-eqb l l refl)
-
-  pub edge-next : edgeMark e X l R (l + 1) ≡ e .next
-  unfolding edgeMark pick
-  edge-next =
-      rw (
-        le-ltb (l + 1) X (omega arith),
-        ne-eqb (l + 1) X (λ e. absurd (omega arith)),
-        ne-eqb (l + 1) l (λ e. absurd (omega arith)),
-        eq-eqb (l + 1) (l + 1) refl,
-      )
-
-  pub edge-tail : (x : ℕ) → l + 2 ≤ x → x < R → edgeMark e X l R x ≡ e .between
-  unfolding edgeMark pick
-  edge-tail x p q =
-      rw (
-        le-ltb x X (omega arith),
-        ne-eqb x X (λ e. absurd (omega arith)),
-        ne-eqb x l (λ e. absurd (omega arith)),
-        ne-eqb x (l + 1) (λ e. absurd (omega arith)),
-        lt-ltb x R q,
-      )
-
-  pub edge-right : edgeMark e X l R R ≡ e .right
-  unfolding edgeMark pick
-  edge-right =
-      rw (
-        le-ltb R X (omega arith),
-        ne-eqb R X (λ e. absurd (omega arith)),
-        ne-eqb R l (λ e. absurd (omega arith)),
-        ne-eqb R (l + 1) (λ e. absurd (omega arith)),
-        le-ltb R R (omega arith),
-        eq-eqb R R refl,
-      )
-
-  pub edge-out-right : (x : ℕ) → R < x → edgeMark e X l R x ≡ 0x20
-  unfolding edgeMark pick
-  edge-out-right x h =
-      rw (
-        le-ltb x X (omega arith),
-        ne-eqb x X (λ e. absurd (omega arith)),
-        ne-eqb x l (λ e. absurd (omega arith)),
-        ne-eqb x (l + 1) (λ e. absurd (omega arith)),
-        le-ltb x R (omega arith),
-        ne-eqb x R (λ e. absurd (omega arith)),
-      )
-
   pub edge-row : (f : ℕ → ℕ)
       → alike f (edgeMark e X l R) X (R + 1)
       ≡ (eqb (f X) (e .left)
@@ -207,75 +124,18 @@ module _ (e : Edge) (X l R : ℕ) (inner : X < l) (outer : l + 1 < R) where
         alike-one f g l (l + 1) (omega arith),
         alike-one f g (l + 1) (l + 2) (omega arith),
         alike-one f g R (R + 1) (omega arith),
-        edge-left,
-        edge-line,
-        edge-next,
-        edge-right,
-        run-of f g (e .between) (X + 1) l (λ x p q. edge-inner x p q),
-        run-of f g (e .between) (l + 2) R (λ x p q. edge-tail x p q),
+        edge-left e X l R inner outer,
+        edge-line e X l R inner outer,
+        edge-next e X l R inner outer,
+        edge-right e X l R inner outer,
+        run-of f g (e .between) (X + 1) l (λ x p q. edge-inner e X l R inner outer x p q),
+        run-of f g (e .between) (l + 2) R (λ x p q. edge-tail e X l R inner outer x p q),
       )
       (ends-first (eqb (f X) (e .left)) (alike f (λ _. e .between) (X + 1) l) (eqb (f l) (e .line)) (eqb (f (l + 1)) (e .next))
       (alike f (λ _. e .between) (l + 2) R) (eqb (f R) (e .right)))
 
 -- ---- a line of text, between its sides: its letters are whatever they are
-pub text-out-left : (side X R own x : ℕ) → x < X → textMark side X R own x ≡ 0x20
-unfolding textMark pick
-text-out-left side X R own x h = rw (lt-ltb x X h)
-
 module _ (side X R : ℕ) (wide : X + 2 < R) where
-  pub text-left : (own : ℕ) → textMark side X R own X ≡ side
-  unfolding textMark pick
-  text-left own = rw (le-ltb X X (omega arith), eq-eqb X X refl)
-
-  pub text-first : (own : ℕ) → textMark side X R own (X + 1) ≡ 0x20
-  unfolding textMark pick
-  text-first own = rw (le-ltb (X + 1) X (omega arith), ne-eqb (X + 1) X (λ e. absurd (omega arith)), eq-eqb (X + 1) (X + 1) refl)
-
-  pub text-own : (own x : ℕ) → X + 2 ≤ x → x < R - 1 → textMark side X R own x ≡ own
-  unfolding textMark pick
-  text-own own x p q =
-      rw (
-        le-ltb x X (omega arith),
-        ne-eqb x X (λ e. absurd (omega arith)),
-        ne-eqb x (X + 1) (λ e. absurd (omega arith)),
-        lt-ltb (x + 1) R (omega arith),
-      )
-
-  pub text-last : (own x : ℕ) → x + 1 ≡ R → textMark side X R own x ≡ 0x20
-  unfolding textMark pick
-  text-last own x h =
-      rw (
-        le-ltb x X (omega arith),
-        ne-eqb x X (λ e. absurd (omega arith)),
-        ne-eqb x (X + 1) (λ e. absurd (omega arith)),
-        le-ltb (x + 1) R (omega arith),
-        lt-ltb x R (omega arith),
-      )
-
-  pub text-right : (own : ℕ) → textMark side X R own R ≡ side
-  unfolding textMark pick
-  text-right own =
-      rw (
-        le-ltb R X (omega arith),
-        ne-eqb R X (λ e. absurd (omega arith)),
-        ne-eqb R (X + 1) (λ e. absurd (omega arith)),
-        le-ltb (R + 1) R (omega arith),
-        le-ltb R R (omega arith),
-        eq-eqb R R refl,
-      )
-
-  pub text-out-right : (own x : ℕ) → R < x → textMark side X R own x ≡ 0x20
-  unfolding textMark pick
-  text-out-right own x h =
-      rw (
-        le-ltb x X (omega arith),
-        ne-eqb x X (λ e. absurd (omega arith)),
-        ne-eqb x (X + 1) (λ e. absurd (omega arith)),
-        le-ltb (x + 1) R (omega arith),
-        le-ltb x R (omega arith),
-        ne-eqb x R (λ e. absurd (omega arith)),
-      )
-
   pub text-row : (f : ℕ → ℕ)
       → alike f (λ x. textMark side X R (f x) x) X (R + 1)
       ≡ (eqb (f X) side && (eqb (f (X + 1)) 0x20 && (eqb (f (R - 1)) 0x20 && eqb (f R) side)))
@@ -290,11 +150,11 @@ module _ (side X R : ℕ) (wide : X + 2 < R) where
         alike-one f g (X + 1) (X + 2) (omega arith),
         alike-one f g (R - 1) R (omega arith),
         alike-one f g R (R + 1) (omega arith),
-        text-left (f X),
-        text-first (f (X + 1)),
-        text-last (f (R - 1)) (R - 1) (omega arith),
-        text-right (f R),
-        alike-if f g (X + 2) (R - 1) (λ x p q. sym (text-own (f x) x p q)),
+        text-left side X R wide (f X),
+        text-first side X R wide (f (X + 1)),
+        text-last side X R wide (f (R - 1)) (R - 1) (omega arith),
+        text-right side X R wide (f R),
+        alike-if f g (X + 2) (R - 1) (λ x p q. sym (text-own side X R wide (f x) x p q)),
       )
 
 -- ---- a row through a box: spaces beside it

@@ -1,4 +1,4 @@
--- A spot as the rules' words have it, and one that fits between the sides of its column and the ends of its band and gap.
+-- What a spot has in cells that lie row by row, and one that fits between the sides of its column and the ends of its band and gap.
 use mathlib.Core.Path.{_≡_}
 use mathlib.Core.Bool.{true}
 use mathlib.Core.List.{List}
@@ -6,21 +6,8 @@ use Prim.Native.Nat.{ℕ, _+_, _*_, _≤_, _<_}
 use lib.ListN.{getD}
 use Rattle.rules.specs.Drawing.{Marks}
 use Rattle.marks.specs.Spot as Rules
-use Rattle.picture_field.specs.declared.spot.Spot.{Spot}
-
--- the spot, its joint's parent being the cell that stands here
-abbrev pub plain : Spot → Rules.Spot
-plain s =
-    record {
-      joint = record { parent = s .cell; child = s .child; on = s .on };
-      up = s .up;
-      line = s .line;
-      bend = s .bend;
-      left = s .left;
-      top = s .top;
-      right = s .right;
-      bottom = s .bottom;
-    }
+use Rattle.row_shapes.specs.declared.spot.Spot.{Spot}
+use Rattle.row_shapes.specs.Plain.{plain}
 
 -- the mark at (x, y) of cells that lie row by row
 abbrev pub markIn : List ℕ → ℕ → ℕ → ℕ → ℕ

@@ -2,8 +2,8 @@
 use mathlib.Core.List.{List}
 use Prim.Native.Nat.{ℕ, _+_, _≤_, _<_}
 use lib.ListN.{getD}
-use Rattle.picture_field.specs.declared.spot.Spot.{Spot}
-use Rattle.picture_field.specs.declared.shape.Span.{Span}
+use Rattle.row_shapes.specs.declared.spot.Spot.{Spot}
+use Rattle.picture_field.specs.declared.span.Span.{Span}
 
 -- the column's sides, between them the box's, and between these the line and the place beside it
 pub record Ordered (p : Span) : Type 0 where

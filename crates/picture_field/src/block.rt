@@ -6,18 +6,19 @@ ghost use lib.ListN.{length, getD};
 ghost use Rattle.rules.specs.Look.{marksIn};
 ghost use Rattle.marks.specs.Alike.{alikeIn};
 ghost use Rattle.marks.specs.Spot.{spotMark};
-ghost use Rattle.picture_field.specs.Fits.{Stands, Fits, plain, markIn, spotIn};
+ghost use Rattle.picture_field.specs.Fits.{Stands, Fits, markIn, spotIn};
+ghost use Rattle.row_shapes.specs.Plain.{plain};
 ghost use Rattle.picture_field.specs.Span.{Ordered, spanOf};
 use crate::edge::edge_same;
 use crate::edge::texts_same;
-use crate::shape::Span;
-use crate::shape::bend_wire;
-use crate::shape::bottom_edge;
-use crate::shape::foot_wire;
-use crate::shape::straight_wire;
-use crate::shape::top_edge;
-use crate::spot::Spot;
+use crate::span::Span;
 use crate::wire::wires_same;
+use row_shapes::Spot;
+use row_shapes::bend_wire;
+use row_shapes::bottom_edge;
+use row_shapes::foot_wire;
+use row_shapes::straight_wire;
+use row_shapes::top_edge;
 use rules::Glyphs;
 
 // The places of its rows.

@@ -5,12 +5,12 @@ ghost use Prim.Native.Nat.{_+_, _*_, _≤_};
 ghost use lib.ListN.{length};
 ghost use Rattle.marks.specs.Alike.{alike, alikeIn};
 ghost use Rattle.picture_field.specs.Fits.{markIn};
-ghost use Rattle.picture_field.specs.Rows.{edgeMark, textMark};
+ghost use Rattle.row_shapes.specs.Rows.{edgeMark, textMark};
 ghost use Rattle.picture_field.specs.Span.{Ordered, rowIn};
 use crate::run::run_same;
-use crate::shape::Edge;
-use crate::shape::SPACE;
-use crate::shape::Span;
+use crate::span::Span;
+use row_shapes::Edge;
+use row_shapes::SPACE;
 
 // Left and right of the box are spaces.
 fn beside_same(cells: &[u32], base: usize, p: Span) -> bool

@@ -2,9 +2,7 @@
 mod block;
 mod edge;
 mod run;
-mod shape;
-mod spot;
+mod span;
 mod wire;
 
 pub use block::block_same;
-pub use spot::Spot;

@@ -6,12 +6,12 @@ ghost use lib.Dec.{eqb};
 ghost use lib.ListN.{length};
 ghost use Rattle.marks.specs.Alike.{alike, alikeIn};
 ghost use Rattle.picture_field.specs.Fits.{markIn};
-ghost use Rattle.picture_field.specs.Rows.{wireMark};
+ghost use Rattle.row_shapes.specs.Rows.{wireMark};
 ghost use Rattle.picture_field.specs.Span.{Ordered, rowIn};
 use crate::run::run_same;
 use crate::run::runs_same;
-use crate::shape::Span;
-use crate::shape::Wire;
+use crate::span::Span;
+use row_shapes::Wire;
 
 // The row that begins at `base`.
 fn wire_same(cells: &[u32], base: usize, p: Span, w: Wire) -> bool

@@ -60,17 +60,19 @@ module _ {len : List ℕ → ℕ} {marks : Marks} {cells : List ℕ} {w h nodes 
   pub ready : alike (λ k. getD middle k 0) (middleAt column cx) 0 nodes ≡ true → alike (λ i. getD rows i 0) (λ i. getD cy i 0) 0 nrows ≡ true
       → Ready len marks (planSeen marks cells w h) (seen cells w h) w h table nodes column lines most cx xs ncols cy ys nrows
   ready e f = record {
-    lawful = v .lawful;
-    short = v .short;
-    drawable = drawable v;
-    small = limits v;
-    numbers = n;
-    counted = v .gathered .counted;
-    room = omega (arith, table-long v);
-    depths = depth-of v;
-    columns = placed;
-    lines-are = lines-of v;
-    longest-are = longest-of v;
-    titled = λ k l. v .gathered .titled k l .0;
+    known =
+        record {
+          lawful = v .lawful;
+          short = v .short;
+          drawable = drawable v;
+          small = limits v;
+          numbers = n;
+          counted = v .gathered .counted;
+          room = omega (arith, table-long v);
+          depths = depth-of v;
+          columns = placed;
+          lines-are = lines-of v;
+          longest-are = longest-of v;
+        };
     lettered = letters-stand e f;
   }

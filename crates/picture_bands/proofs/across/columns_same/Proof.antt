@@ -6,8 +6,9 @@ use Prim.Native.Nat.{_<_, _≤_, _-_}
 use native.Mathlib.Omega.{arith}
 use Rattle.rules.specs.Look.{marksIn}
 use Rattle.picture_bands.specs.Strip.{stripsSame}
-use Rattle.picture_bands.specs.Row.{rowBy, seenTo}
-use Rattle.picture_bands.proofs.Strips.{seen-step, fits-spot, strip-is, strips-none, strips-more, strips-not}
+use Rattle.row_strips.specs.Row.{rowBy, seenTo}
+use Rattle.row_strips.proofs.Entries.{seen-step}
+use Rattle.picture_bands.proofs.Strips.{fits-spot, strip-is, strips-none, strips-more, strips-not}
 use borrow.Author.Needs.{needs}
 use Rattle.picture_bands.proofs.across.columns_same.Statement.{statement}
 use Rattle.picture_bands.proofs.across.columns_same.Tie as tie

@@ -1,7 +1,7 @@
 -- No node has no size.
 use borrow.Author.Tests.{eq-eqb, ne-eqb}
 use Rattle.rules.specs.Base.{pick}
-use Rattle.picture_bands.specs.Strip.{sizeOf}
+use Rattle.row_strips.specs.Strip.{sizeOf}
 use borrow.Author.Needs.{needs}
 use Rattle.picture_bands.proofs.across.size_of.Statement.{statement}
 use Rattle.picture_bands.proofs.across.size_of.Tie as tie

@@ -2,8 +2,8 @@
 use mathlib.Core.Path.{refl, sym, _∙_}
 use Rattle.marks.proofs.Alike.{in-same}
 use Rattle.picture_field.specs.Fits.{markIn}
-use Rattle.picture_field.specs.Rows.{wireMark}
-use Rattle.picture_field.proofs.Spots.{level-mark}
+use Rattle.row_shapes.specs.Rows.{wireMark}
+use Rattle.row_shapes.proofs.Spots.{level-mark}
 use borrow.Author.Needs.{needs}
 use Rattle.picture_field.proofs.wire.wires_same.Statement.{statement}
 use Rattle.picture_field.proofs.wire.wires_same.Tie as tie

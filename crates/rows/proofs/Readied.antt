@@ -1,0 +1,119 @@
+-- The arrays that are filled from a table that is not refused hold the numbers of its plan; and its text has room in a row that is wide enough.
+use mathlib.Core.Path.{_≡_, refl, ap, sym, _∙_}
+use mathlib.Core.List.{List}
+use mathlib.Core.Bool.{Bool, true, false, false≢true}
+use Prim.Native.Nat.{ℕ, _+_, _*_, _≤_, _<_}
+use native.Mathlib.Nat.{mul-le-mul-left}
+use native.Mathlib.Omega.{arith}
+use lib.ListN.{length, getD, replicate}
+use lib.Seq.{sets}
+use Rattle.rules.specs.Base.{pick, laid}
+use Rattle.rules.specs.Numbers.{badDepth}
+use Rattle.rules.specs.Plan.{count, planOf}
+use Rattle.rules.specs.Standin.{standinOf}
+use Rattle.rules.specs.Levels.{view}
+use Rattle.rules.specs.Measures.{columnOffset, canvasWidth, canvasHeight}
+use Rattle.rules.specs.Drawing.{Marks, picture, text}
+use Rattle.rules.proofs.Lists.{first-none, laid-sets}
+use Rattle.rules.proofs.Replaced.{replaced-bad}
+use Rattle.levels.specs.Shown.{planShown, Showable}
+use Rattle.levels.specs.Filled.{filled}
+use Rattle.levels.proofs.Shown.{shows, small}
+use Rattle.marks.specs.Lawful.{Lawful}
+use Rattle.tree_view.specs.Measured.{Short}
+use Rattle.tree_view.specs.Sizes.{middleAt}
+use Rattle.tree_view.proofs.Limits.{canvas-height-le}
+use Rattle.canvas.specs.declared.draw.Size.{Size}
+use Rattle.canvas_text.specs.Emit.{Needed}
+use Rattle.canvas_text.proofs.EmitText.{text-size}
+use Rattle.tree_format.specs.Sized.{Measured, Laid, Sized, Arrays}
+use Rattle.tree_format.proofs.Measures.{column-of, arrays}
+use Rattle.row_cells.specs.Band.{Ready}
+use Rattle.row_walk.specs.Told.{textFrom, Added, Lent}
+use Rattle.row_walk.proofs.Adds.{text-whole}
+
+pub ready : {len : List ℕ → ℕ} {marks : Marks} {given : Bool} {S T B : List ℕ} {nodes : ℕ} {C L G cx xs : List ℕ} {ncols : ℕ} {cy ys : List ℕ} {nrows : ℕ} {size : Size} → Lawful len marks
+    → Short len → Showable given S T B → nodes ≡ count T → 0 < nodes → Measured len T (planShown given S T B) C L G → Laid len (view (planShown given S T B)) cx ncols cy ys nrows
+    → Sized len (view (planShown given S T B)) size → ((j : ℕ) → j < ncols → getD xs j 0 ≡ columnOffset len (view (planShown given S T B)) j)
+    → Ready len marks given S T B (size .width) (size .height) nodes C L G cx xs ncols cy ys nrows
+ready {len} {marks} {given} {S} {T} {B} {nodes} {C} {L} {G} {cx} {xs} {ncols} ok short a all some m l s offsets =
+    let p = planShown given S T B in
+    let w = shows a in
+    let n = w .nodes in
+    let r : Arrays len p cx _ _ _ L G = arrays short w m l (filled (middleAt C cx) 0 (count T) (replicate 256 0)) refl in
+    record {
+      showable = a;
+      known =
+          record {
+            lawful = ok;
+            short = short;
+            drawable =
+                record {
+                  some = omega arith;
+                  sized = omega (arith, w .few);
+                  depths = first-none (badDepth p) (length p) (λ k h. replaced-bad (standinOf given S) (planOf T B) k ∙ a .table .depths k (omega arith));
+                };
+            small = small w;
+            numbers =
+                record {
+                  wide = s .width-is;
+                  high = s .height-is;
+                  columns-are = l .count-is;
+                  rows-are = l .row-count-is;
+                  cx-is = r .cx-is;
+                  x-is = λ j h. offsets j (omega (arith, l .count-is));
+                  cy-is = r .cy-is;
+                  y-is = r .offset-is;
+                };
+            counted = all ∙ sym n;
+            room = omega (arith, w .whole);
+            depths = λ k h. sym (w .depths k);
+            columns = λ k h. column-of short w m k (omega arith);
+            lines-are = λ k h. r .nodes-are k (omega arith) .lines-is;
+            longest-are = λ k h. r .nodes-are k (omega arith) .longest-is;
+          };
+    }
+
+module _ {len : List ℕ → ℕ} {marks : Marks} {given : Bool} {S T B : List ℕ} {w h nodes : ℕ} {C L G cx xs : List ℕ} {ncols : ℕ} {cy ys : List ℕ} {nrows : ℕ}
+    (q : Ready len marks given S T B w h nodes C L G cx xs ncols cy ys nrows) where
+  abbrev all : List ℕ
+  all = text len marks (planShown given S T B)
+
+  bound : length all ≤ 4 * (w * h) + h
+  unfolding text
+  bound =
+      rw (q .known .numbers .wide, q .known .numbers .high)
+      (text-size (picture len marks (view (planShown given S T B))) (canvasWidth len (view (planShown given S T B))) (canvasHeight (view (planShown given S T B))))
+
+  pub height-few : h ≤ 65536
+  height-few = omega (arith, q .known .numbers .high, canvas-height-le (planShown given S T B) (q .known .small))
+
+  -- enough for all that the text can be
+  pub ample : (room : ℕ) → 4 * (w * h) + h ≤ room → Needed all room 0
+  ample room e = record { told = λ l. absurd (omega arith); fits = λ l. omega (arith, bound) }
+
+  -- a canvas of few cells has a narrow row and a short text
+  pub lent : w * h ≤ 1048576 → (room : ℕ) → Lent len marks (planShown given S T B) w false room
+  unfolding canvasHeight
+  lent e room =
+      let k : 1 ≤ h = omega (arith, q .known .numbers .high) in
+      record {
+        narrow = omega (arith, mul-le-mul-left {m = 1} {n = h} w k);
+        short = omega (arith, bound, height-few);
+        enough = λ b. absurd (false≢true b);
+      }
+
+  pub lent-bytes : {room room′ : ℕ} → Lent len marks (planShown given S T B) w false room → length all ≤ room′ → Lent len marks (planShown given S T B) w true room′
+  lent-bytes l e = record { narrow = l .narrow; short = l .short; enough = λ b. e }
+
+  -- all rows, counted or stored
+  whole : textFrom len marks (planShown given S T B) 0 h ≡ all
+  whole = ap (textFrom len marks (planShown given S T B) 0) (q .known .numbers .high) ∙ text-whole len marks (planShown given S T B)
+
+  pub count-told : {old new : List ℕ} {r : ℕ} → Added len marks (planShown given S T B) false 0 h 0 old new r → (r ≡ length all) × (new ≡ old)
+  unfolding pick
+  count-told a = (omega (arith, a .place, ap length whole), a .bytes)
+
+  pub stored : {old new : List ℕ} {r : ℕ} → length all ≤ length old → Added len marks (planShown given S T B) true 0 h 0 old new r → (r ≡ length all) × (new ≡ laid all old)
+  unfolding pick
+  stored {old} f a = (omega (arith, a .place, ap length whole), a .bytes ∙ ap (sets old 0) whole ∙ laid-sets all old f)

@@ -1,0 +1,398 @@
+// The row drawing.
+ghost use mathlib.Core.Path.{_≡_};
+ghost use mathlib.Core.Bool.{true, false};
+ghost use mathlib.Core.List.{[]};
+ghost use Prim.Native.Nat.{ℕ, _<_};
+ghost use lib.ListN.{length, getD};
+ghost use Rattle.rules.specs.Plan.{count, planOf};
+ghost use Rattle.rules.specs.Levels.{columnsOf, view};
+ghost use Rattle.rules.specs.Measures.{columnOffset};
+ghost use Rattle.rules.specs.Drawing.{text};
+ghost use Rattle.rules.specs.Look.{base, lenOf, marksIn, lookOf};
+ghost use Rattle.rules.specs.Standin.{none, standinOf};
+ghost use Rattle.rules.specs.Answers.{untitled, lastRow, rowDrawing, rowAfter, rowOutAfter};
+ghost use Rattle.levels.specs.Shown.{planShown, Showable};
+ghost use Rattle.marks.specs.Lawful.{Lawful};
+ghost use Rattle.canvas_text.specs.Emit.{Needed};
+ghost use Rattle.tree_format.specs.Drawn.{Written};
+ghost use Rattle.tree_format.specs.Sized.{Measured, Laid, Sized};
+ghost use Rattle.row_cells.specs.Band.{Ready};
+ghost use Rattle.row_walk.specs.Told.{Lent};
+ghost use Rattle.rows.specs.Rowed.{Stored, Rowed};
+use canvas::Size;
+use rules::Answer;
+use rules::Drawing;
+use rules::Measure;
+use rules::Profile;
+use rules::Style;
+
+// What the text needs, if that is more than the output has. (It is not counted where the output has four bytes for each cell and one for each row.)
+fn counted<'a>(
+    row: &mut [u32],
+    style: Style,
+    table: &[u32],
+    nodes: usize,
+    titles: &'a [u8],
+    standin: &'a [u8],
+    column: &[u32; 256],
+    lines: &[u32; 256],
+    longest: &[u32; 256],
+    cx: &[u32; 256],
+    xs: &[u32; 256],
+    ncols: u32,
+    cy: &[u32; 32],
+    ys: &[u32; 32],
+    nrows: u32,
+    size: Size,
+    out: &mut [u8],
+) -> usize
+    requires { ⌜ Ready (lenOf (style .measure)) (marksIn (style .marks)) (style .given) (now standin) (now table) (now titles) (size .width) (size .height) nodes (now column) (now lines) (now longest) (now cx) (now xs) ncols (now cy) (now ys) nrows ⌝ }
+    requires { ⌜ (length (now row) ≡ size .width) × Lent (lenOf (style .measure)) (marksIn (style .marks)) (planShown (style .given) (now standin) (now table) (now titles)) (size .width) false (length (now out)) ⌝ }
+    ensures { λ r. ⌜ Needed (text (lenOf (style .measure)) (marksIn (style .marks)) (planShown (style .given) (now (standin .entry)) (now (table .entry)) (now (titles .entry)))) (length (now (out .entry))) r ⌝ }
+    ensures { λ r. ⌜ (now (out .exit) ≡ now (out .entry)) × (length (now (out .entry)) < r → now (row .exit) ≡ lastRow (lenOf (style .measure)) (marksIn (style .marks)) (planShown (style .given) (now (standin .entry)) (now (table .entry)) (now (titles .entry)))) ⌝ }
+{
+    if 4 * tree_view::area(size.width, size.height) + text::wide(size.height) <= out.len() {
+        return 0;
+    }
+    let store = false;
+    row_walk::walk(
+        row,
+        style,
+        table,
+        nodes,
+        titles,
+        standin,
+        column,
+        lines,
+        longest,
+        cx,
+        xs,
+        ncols,
+        cy,
+        ys,
+        nrows,
+        size,
+        store,
+        out,
+    )
+}
+
+// The text of a plan of this size, which has room, made in a row of its width.
+fn stored<'a>(
+    row: &mut [u32],
+    style: Style,
+    table: &[u32],
+    nodes: usize,
+    titles: &'a [u8],
+    standin: &'a [u8],
+    column: &[u32; 256],
+    lines: &[u32; 256],
+    longest: &[u32; 256],
+    cx: &[u32; 256],
+    xs: &[u32; 256],
+    ncols: u32,
+    cy: &[u32; 32],
+    ys: &[u32; 32],
+    nrows: u32,
+    size: Size,
+    out: &mut [u8],
+) -> Drawing
+    requires { ⌜ Ready (lenOf (style .measure)) (marksIn (style .marks)) (style .given) (now standin) (now table) (now titles) (size .width) (size .height) nodes (now column) (now lines) (now longest) (now cx) (now xs) ncols (now cy) (now ys) nrows ⌝ }
+    requires { ⌜ (length (now row) ≡ size .width) × Lent (lenOf (style .measure)) (marksIn (style .marks)) (planShown (style .given) (now standin) (now table) (now titles)) (size .width) true (length (now out)) ⌝ }
+    ensures { λ r. ⌜ Stored (text (lenOf (style .measure)) (marksIn (style .marks)) (planShown (style .given) (now (standin .entry)) (now (table .entry)) (now (titles .entry)))) (now (out .entry)) (size .width) (size .height) (untitled (planOf (now (table .entry)) (now (titles .entry)))) r (now (out .exit)) ⌝ }
+    ensures { λ _. ⌜ now (row .exit) ≡ lastRow (lenOf (style .measure)) (marksIn (style .marks)) (planShown (style .given) (now (standin .entry)) (now (table .entry)) (now (titles .entry))) ⌝ }
+{
+    let bytes = row_walk::walk(
+        row,
+        style,
+        table,
+        nodes,
+        titles,
+        standin,
+        column,
+        lines,
+        longest,
+        cx,
+        xs,
+        ncols,
+        cy,
+        ys,
+        nrows,
+        size,
+        true,
+        out,
+    );
+    Drawing {
+        answer: Answer::Done(bytes),
+        width: text::wide(size.width),
+        height: text::wide(size.height),
+        untitled: text::wide(levels::untitled(table, nodes)),
+    }
+}
+
+// The text of a plan of this size, made in a row of its width, or ROOM.
+fn written<'a>(
+    row: &mut [u32],
+    style: Style,
+    table: &[u32],
+    nodes: usize,
+    titles: &'a [u8],
+    standin: &'a [u8],
+    column: &[u32; 256],
+    lines: &[u32; 256],
+    longest: &[u32; 256],
+    cx: &[u32; 256],
+    xs: &[u32; 256],
+    ncols: u32,
+    cy: &[u32; 32],
+    ys: &[u32; 32],
+    nrows: u32,
+    size: Size,
+    out: &mut [u8],
+) -> Drawing
+    requires { ⌜ Ready (lenOf (style .measure)) (marksIn (style .marks)) (style .given) (now standin) (now table) (now titles) (size .width) (size .height) nodes (now column) (now lines) (now longest) (now cx) (now xs) ncols (now cy) (now ys) nrows ⌝ }
+    requires { ⌜ (length (now row) ≡ size .width) × Lent (lenOf (style .measure)) (marksIn (style .marks)) (planShown (style .given) (now standin) (now table) (now titles)) (size .width) false (length (now out)) ⌝ }
+    ensures { λ r. ⌜ Written (text (lenOf (style .measure)) (marksIn (style .marks)) (planShown (style .given) (now (standin .entry)) (now (table .entry)) (now (titles .entry)))) (now (out .entry)) (size .width) (size .height) (untitled (planOf (now (table .entry)) (now (titles .entry)))) r (now (out .exit)) ⌝ }
+    ensures { λ _. ⌜ now (row .exit) ≡ lastRow (lenOf (style .measure)) (marksIn (style .marks)) (planShown (style .given) (now (standin .entry)) (now (table .entry)) (now (titles .entry))) ⌝ }
+{
+    let need = counted(
+        row,
+        style,
+        table,
+        nodes,
+        titles,
+        standin,
+        column,
+        lines,
+        longest,
+        cx,
+        xs,
+        ncols,
+        cy,
+        ys,
+        nrows,
+        size,
+        out,
+    );
+    if out.len() < need {
+        return tree_format::undrawn(Answer::Room(need));
+    }
+    stored(
+        row,
+        style,
+        table,
+        nodes,
+        titles,
+        standin,
+        column,
+        lines,
+        longest,
+        cx,
+        xs,
+        ncols,
+        cy,
+        ys,
+        nrows,
+        size,
+        out,
+    )
+}
+
+// Draws a plan of this size, or tells which cells or bytes it lacks.
+fn sized<'a, 'b>(
+    row: &mut [u32],
+    style: Style,
+    table: &[u32],
+    nodes: usize,
+    titles: &'a [u8],
+    standin: &'a [u8],
+    column: &[u32; 256],
+    lines: &[u32; 256],
+    longest: &[u32; 256],
+    cx: &'b [u32; 256],
+    xs: &'b [u32; 256],
+    ncols: u32,
+    cy: &[u32; 32],
+    ys: &[u32; 32],
+    nrows: u32,
+    size: Size,
+    out: &mut [u8],
+) -> Drawing
+    requires { ⌜ Showable (style .given) (now standin) (now table) (now titles) × (nodes ≡ count (now table)) × (0 < nodes) × Lawful (lenOf (style .measure)) (marksIn (style .marks)) ⌝ }
+    requires { ⌜ Measured (lenOf (style .measure)) (now table) (planShown (style .given) (now standin) (now table) (now titles)) (now column) (now lines) (now longest) ⌝ }
+    requires { ⌜ Laid (lenOf (style .measure)) (view (planShown (style .given) (now standin) (now table) (now titles))) (now cx) ncols (now cy) (now ys) nrows × Sized (lenOf (style .measure)) (view (planShown (style .given) (now standin) (now table) (now titles))) size ⌝ }
+    requires { ⌜ ((j : ℕ) → j < ncols → getD (now xs) j 0 ≡ columnOffset (lenOf (style .measure)) (view (planShown (style .given) (now standin) (now table) (now titles))) j) ⌝ }
+    ensures { λ r. ⌜ Rowed (lenOf (style .measure)) (marksIn (style .marks)) (planShown (style .given) (now (standin .entry)) (now (table .entry)) (now (titles .entry)))
+        (untitled (planOf (now (table .entry)) (now (titles .entry)))) (now (row .entry)) (now (out .entry)) r (now (row .exit)) (now (out .exit)) ⌝ }
+{
+    let need = tree_view::area(size.width, size.height);
+    if rules::MOST_CELLS < need {
+        return tree_format::undrawn(Answer::Large);
+    }
+    let width = text::wide(size.width);
+    let lent = row.len();
+    if lent < width {
+        return tree_format::undrawn(Answer::Canvas(width));
+    }
+    written(
+        &mut row[..width],
+        style,
+        table,
+        nodes,
+        titles,
+        standin,
+        column,
+        lines,
+        longest,
+        cx,
+        xs,
+        ncols,
+        cy,
+        ys,
+        nrows,
+        size,
+        out,
+    )
+}
+
+// The columns and rows of a plan whose nodes are measured, and its drawing.
+fn measured<'a>(
+    row: &mut [u32],
+    style: Style,
+    table: &[u32],
+    nodes: usize,
+    titles: &'a [u8],
+    standin: &'a [u8],
+    column: &[u32; 256],
+    lines: &[u32; 256],
+    longest: &[u32; 256],
+    ncols: u32,
+    out: &mut [u8],
+) -> Drawing
+    requires { ⌜ Showable (style .given) (now standin) (now table) (now titles) × (nodes ≡ count (now table)) × (0 < nodes) × Lawful (lenOf (style .measure)) (marksIn (style .marks)) ⌝ }
+    requires { ⌜ Measured (lenOf (style .measure)) (now table) (planShown (style .given) (now standin) (now table) (now titles)) (now column) (now lines) (now longest) ⌝ }
+    requires { ⌜ ncols ≡ columnsOf (planOf (now table) []) ⌝ }
+    ensures { λ r. ⌜ Rowed (lenOf (style .measure)) (marksIn (style .marks)) (planShown (style .given) (now (standin .entry)) (now (table .entry)) (now (titles .entry)))
+        (untitled (planOf (now (table .entry)) (now (titles .entry)))) (now (row .entry)) (now (out .entry)) r (now (row .exit)) (now (out .exit)) ⌝ }
+{
+    let nrows = levels::rows(table, nodes);
+    let d = tree_view::index_digits(nrows);
+    let columns = tree_view::tree_columns(nodes, column, longest, ncols, d + 4);
+    let rows = tree_view::tree_rows(table, nodes, lines, nrows);
+    let size = Size {
+        width: tree_view::canvas_width(&columns.offset, &columns.width, ncols),
+        height: tree_view::canvas_height(&rows.offset, &rows.height, nrows),
+    };
+    let mut cy = [0u32; 32];
+    tree_view::row_centers(&rows.offset, &rows.center, nrows, &mut cy);
+    sized(
+        row,
+        style,
+        table,
+        nodes,
+        titles,
+        standin,
+        column,
+        lines,
+        longest,
+        &columns.center,
+        &columns.offset,
+        ncols,
+        &cy,
+        &rows.offset,
+        nrows,
+        size,
+        out,
+    )
+}
+
+// Measures the nodes of a plan that is not refused, and draws it.
+fn drawn<'a>(
+    row: &mut [u32],
+    style: Style,
+    table: &[u32],
+    titles: &'a [u8],
+    standin: &'a [u8],
+    out: &mut [u8],
+) -> Drawing
+    requires { ⌜ Showable (style .given) (now standin) (now table) (now titles) × (0 < count (now table)) × Lawful (lenOf (style .measure)) (marksIn (style .marks)) ⌝ }
+    ensures { λ r. ⌜ Rowed (lenOf (style .measure)) (marksIn (style .marks)) (planShown (style .given) (now (standin .entry)) (now (table .entry)) (now (titles .entry)))
+        (untitled (planOf (now (table .entry)) (now (titles .entry)))) (now (row .entry)) (now (out .entry)) r (now (row .exit)) (now (out .exit)) ⌝ }
+{
+    let nodes = table.len() / 3;
+    let mut column = [0u32; 256];
+    let mut lines = [0u32; 256];
+    let mut longest = [0u32; 256];
+    let ncols = levels::columns(table, nodes, &mut column);
+    let measure = style.measure;
+    tree_view::measures(
+        table,
+        nodes,
+        titles,
+        style.given,
+        standin,
+        measure,
+        &mut lines,
+        &mut longest,
+    );
+    measured(
+        row,
+        style,
+        table,
+        nodes,
+        titles,
+        standin,
+        &column,
+        &lines,
+        &longest,
+        ncols,
+        out,
+    )
+}
+
+// Draws a plan row by row: each row is made in the lent cells and appended to `out`. With a stand-in for empty titles if one is given, lines
+// measured and marks chosen as told.
+pub fn draw_rows<'a>(
+    table: &[u32],
+    titles: &'a [u8],
+    given: bool,
+    standin: &'a [u8],
+    measure: Measure,
+    profile: Profile,
+    row: &mut [u32],
+    out: &mut [u8],
+) -> Drawing
+    ensures answered { λ r. ⌜ r ≡ rowDrawing (lookOf measure profile) (standinOf given (now (standin .entry))) (now (table .entry)) (now (titles .entry)) (length (now (row .entry))) (length (now (out .entry))) ⌝ }
+    ensures row_left { λ r. ⌜ now (row .exit) ≡ rowAfter (lookOf measure profile) (standinOf given (now (standin .entry))) (now (table .entry)) (now (titles .entry)) (length (now (out .entry))) (now (row .entry)) ⌝ }
+    ensures out_left { λ r. ⌜ now (out .exit) ≡ rowOutAfter (lookOf measure profile) (standinOf given (now (standin .entry))) (now (table .entry)) (now (titles .entry)) (length (now (row .entry))) (now (out .entry)) ⌝ }
+{
+    let refusal = levels::refusal(table, titles, given, standin, profile, true);
+    if rules::done(refusal) {
+        let marks = rules::marks_of(profile);
+        let style = Style {
+            measure,
+            given,
+            marks,
+        };
+        return drawn(row, style, table, titles, standin, out);
+    }
+    tree_format::undrawn(refusal)
+}
+
+// Draws a plan row by row as 000 does: no stand-in, lines in bytes, box characters.
+pub fn tree_fmt_rows(table: &[u32], titles: &[u8], row: &mut [u32], out: &mut [u8]) -> Drawing
+    ensures answered { λ r. ⌜ r ≡ rowDrawing base none (now (table .entry)) (now (titles .entry)) (length (now (row .entry))) (length (now (out .entry))) ⌝ }
+    ensures row_left { λ r. ⌜ now (row .exit) ≡ rowAfter base none (now (table .entry)) (now (titles .entry)) (length (now (out .entry))) (now (row .entry)) ⌝ }
+    ensures out_left { λ r. ⌜ now (out .exit) ≡ rowOutAfter base none (now (table .entry)) (now (titles .entry)) (length (now (row .entry))) (now (out .entry)) ⌝ }
+{
+    draw_rows(
+        table,
+        titles,
+        false,
+        titles,
+        Measure::Bytes,
+        Profile::Boxes,
+        row,
+        out,
+    )
+}
