@@ -1,7 +1,7 @@
 """What the programs are held to: requests to `answers`, and the line that each must get.
 
 Texts and the crate's graphs come from the Rust crate itself (../shared/oracle builds its code); refusals, sizes, the fenced graph, fitted
-boxes, the plan that is read off a picture and what is left in lent memory from a second reading of the documents (../shared/model/rules.py
+boxes, how a drawing is cut into sheets, the plan that is read off a picture and what is left in lent memory from a second reading of the documents (../shared/model/rules.py
 is document 01, and takes a request of document 02 as a keyword). Plain drawings come from both: the crate's drawing, each mark of which is
 put as a plain one, has to be what the second reading draws. With a stand-in the crate is asked for the plan with every empty title
 replaced. A drawing that is made row by row is held to the same text, of which the lent row has to hold the last line. Nothing here runs
@@ -17,13 +17,14 @@ except ImportError: rules = None
 
 TEXT, GRAPH, FENCED, READ, FILE = 0, 1, 2, 3, 4
 ROWS = 5  # (iii)
-WHY, FITS = 6, 8  # (vi), (ix)
+WHY, FITS, SHEETS = 6, 8, 9  # (vi), (ix), (x)
 DRAWN = TEXT, FILE, ROWS
 # a look: the crate's, and what is added to it: (iv) a line's length is its code points, (xiii) plain marks, (i) a stand-in is given
 BYTES, FITTED, PLAIN, GIVEN = 0, 1, 2, 4
 LOOKS = {TEXT: tuple(range(8)), GRAPH: (BYTES, GIVEN), FENCED: (BYTES, GIVEN), READ: tuple(range(4)), FILE: (BYTES,), WHY: (BYTES,), FITS: (BYTES,)}  # that a kind of request takes
-LOOKS[ROWS] = LOOKS[TEXT]
+LOOKS[ROWS] = LOOKS[SHEETS] = LOOKS[TEXT]
 STANDIN, NOCELL, NOT_PLAIN = 12, 13, 17  # (i) a stand-in that may not stand in; (vi) no cell stands there; (xiii) a title that does not keep to the bytes of the plain profile
+SHEET = 15  # (x) sheets of no width or no height
 CELL, BYTE, PRIME = 0xA5A5A5A5, 0xA5, 4294967291
 MOST_LENT_CELLS, MOST_OUT, MOST_TITLES, MOST_ENTRIES, MOST_PAYLOAD, MOST_STANDIN = 262144, 524288, 262144, 1024, 524288, 4096
 
@@ -142,10 +143,13 @@ class Request:
         if look == FITTED or self.cells > lent1 or self.area > rules.LIMIT: self.form = None
         else: self.form = {TEXT: 'text', FILE: 'text', ROWS: 'text', GRAPH: 'dot'}.get(kind)
 
+    def payload(self):
+        if self.kind == FILE: return self.file
+        plan = packed(self.table, self.titles)
+        return plan if self.standin is None else struct.pack('<I', len(self.standin)) + self.standin + plan
+
     def sent(self):
-        if self.kind == FILE: payload = self.file
-        else: payload = packed(self.table, self.titles)
-        if self.standin is not None: payload = struct.pack('<I', len(self.standin)) + self.standin + payload
+        payload = self.payload()
         return head(self.kind, self.lent1, self.lent2, 0, len(payload), self.look) + payload
 
     def within(self):
@@ -180,6 +184,65 @@ class Request:
         cells = cells[-self.cells:]  # all of them; (iii) or the last row
         if len(crate) > self.lent2: return rules.ROOM, len(crate), none, cells, b''
         return rules.DONE, len(crate), (width, height, self.untitled), cells, crate
+
+
+class Sheets:
+    """(x) A drawing on sheets. The whole drawing, with room for all of it, is judged as any other, and then cut."""
+
+    def __init__(self, across, down, lent1, lent2, table, titles, look=BYTES, standin=None):
+        self.across, self.down, self.lent1, self.lent2 = across, down, lent1, lent2
+        self.whole = Request(TEXT, lent1, 1 << 40, table, titles, look=look, standin=standin)
+        self.plan, self.form, self.look = self.whole.plan, self.whole.form, self.whole.look
+
+    def sent(self):
+        payload = struct.pack('<II', self.across, self.down) + self.whole.payload()
+        return head(SHEETS, self.lent1, self.lent2, 0, len(payload), self.look) + payload
+
+    def within(self):
+        w = self.whole
+        return (self.lent1 <= MOST_LENT_CELLS and self.lent2 <= MOST_OUT and len(self.sent()) - 20 <= MOST_PAYLOAD
+                and len(w.titles) <= MOST_TITLES and len(w.table) <= MOST_ENTRIES and len(w.standin or b'') <= MOST_STANDIN)
+
+    def line(self, crate):
+        number, second, sizes, cells, out = self.settled(crate)
+        return '%d %d %d %d %d %d %d 0' % (number, second, *sizes, left(cells, self.lent1, CELL), left(out, self.lent2, BYTE))
+
+    def settled(self, crate):
+        """Number, second number, sizes, and what the canvas and the output begin with afterwards. The sheets, laid edge to edge again, have
+        to be the drawing."""
+        if not self.across or not self.down: return SHEET, 0, (0, 0, 0), [], b''
+        number, second, sizes, cells, drawing = self.whole.settled(crate)
+        if number != rules.DONE: return number, second, sizes, cells, b''
+        out = cut(drawing, sizes[0], self.across, self.down)
+        assert glued(out, sizes[0], sizes[1], self.across, self.down) == drawing
+        if len(out) > self.lent2: return rules.ROOM, len(out), (0, 0, 0), cells, b''
+        return rules.DONE, len(out), sizes, cells, out
+
+
+def cut(drawing, width, across, down):
+    """(x) The sheets of a drawing, left to right, then down."""
+    rows = [row.ljust(width) for row in drawing.decode().split('\n')[:-1]]
+    sheets = []
+    for R, top in enumerate(range(0, len(rows), down)):
+        for C, left in enumerate(range(0, width, across)):
+            sheets.append('sheet %d %d\n' % (R, C) + ''.join(row[left:left + across].rstrip(' ') + '\n' for row in rows[top:top + down]))
+    return ''.join(sheets).encode()
+
+
+def glued(text, width, height, across, down):
+    """The drawing whose sheets these are: their rows, padded, laid edge to edge. Each line of a sheet has to be what (x) says."""
+    lines = iter(text.decode().split('\n'))
+    rows = [''] * height
+    for R in range(-(-height // down)):
+        for C in range(-(-width // across)):
+            assert next(lines) == 'sheet ' + str(R) + ' ' + str(C)
+            wide = min(across, width - C * across)
+            for y in range(R * down, min(height, (R + 1) * down)):
+                line = next(lines)
+                assert len(line) <= wide and not line.endswith(' ')
+                rows[y] += line + ' ' * (wide - len(line))
+    assert list(lines) == ['']
+    return ''.join(row.rstrip(' ') + '\n' for row in rows).encode()
 
 
 class Picture:

@@ -1,4 +1,4 @@
-/* Girthladder for C and C++: query plans as trees of boxes, on a canvas or row by row, and as graphs, such trees read back, why a step is
+/* Girthladder for C and C++: query plans as trees of boxes, on a canvas, row by row or on sheets, and as graphs, such trees read back, why a step is
  * drawn where it is, and whether a drawing fits the screen.
  *
  * A plan is a table and the bytes of its titles. The table has three uint32_t for each node, nodes depth first:
@@ -49,6 +49,7 @@ extern "C" {
  * each: the second number. */
 enum girthladder_number {
     GIRTHLADDER_DONE = 0,   /* done: bytes written */
+    GIRTHLADDER_SHEET = 15, /* a sheet's width or height is 0, girthladder_sheets only: 0 */
     GIRTHLADDER_RAGGED = 1, /* the table's length is no multiple of 3: 0 */
     GIRTHLADDER_MANY = 2,   /* over 256 nodes: 0 */
     GIRTHLADDER_NONE = 3,   /* no node, drawing and girthladder_fits: 0 */
@@ -158,6 +159,36 @@ static inline void girthladder_rows_standin(const uint32_t *table, size_t table_
                                             struct girthladder_answer *answer) {
     girthladder_rows_with(table, table_length, titles, titles_length, look, standin != NULL, standin, standin ? standin_length : 0,
                           row, row_length, out, out_length, answer);
+}
+
+/* Draws the plan, as girthladder_text_with does, and cuts the drawing into sheets of this width and height in characters, left to right, then
+ * down. Each sheet begins with a line `sheet R C`, its row and column of sheets, both counted from 0, and has its rows after it, each without
+ * spaces at its end and with '\n'. The last sheet in a direction may be smaller; any width and height may be asked for, and where both are
+ * as large as the drawing there is one sheet. Padded with spaces and laid edge to edge, the sheets are the drawing again.
+ *   DONE    out[0 .. second) holds all sheets, one after another; canvas, width, height and untitled are those of the whole drawing.
+ *   ROOM    the canvas is as for DONE; out is unchanged; `second` is the bytes of all sheets together.
+ *   else    canvas and out are unchanged.
+ * How much to lend: ask with canvas and out of length 0, CANVAS tells the cells needed; then with out of length 0, ROOM tells the bytes. */
+void girthladder_sheets(const uint32_t *table, size_t table_length,
+                        const uint8_t *titles, size_t titles_length,
+                        uint32_t look,
+                        uint32_t given, const uint8_t *standin, size_t standin_length,
+                        uint32_t width, uint32_t height,
+                        uint32_t *canvas, size_t canvas_length,
+                        uint8_t *out, size_t out_length,
+                        struct girthladder_answer *answer);
+
+/* The same from C, where null is no stand-in. */
+static inline void girthladder_sheets_standin(const uint32_t *table, size_t table_length,
+                                              const uint8_t *titles, size_t titles_length,
+                                              uint32_t look,
+                                              const uint8_t *standin, size_t standin_length,
+                                              uint32_t width, uint32_t height,
+                                              uint32_t *canvas, size_t canvas_length,
+                                              uint8_t *out, size_t out_length,
+                                              struct girthladder_answer *answer) {
+    girthladder_sheets(table, table_length, titles, titles_length, look, standin != NULL, standin, standin ? standin_length : 0,
+                       width, height, canvas, canvas_length, out, out_length, answer);
 }
 
 /* Writes the plan as the graph of the crate polars-plan, titles as they are.

@@ -632,6 +632,77 @@ static void each_panel(void) {
     for (size_t k = 0; k < sizeof all / sizeof *all; k++) forget(all[k]);
 }
 
+/* The sheets of this size, cut from the cells that a drawing left: what girthladder_sheets is to write. */
+static size_t cut(const uint32_t *cell, size_t width, size_t height, size_t across, size_t down, char *to) {
+    char *at = to;
+    for (size_t top = 0; top < height; top += down)
+        for (size_t left = 0; left < width; left += across) {
+            at += sprintf(at, "sheet %u %u\n", (unsigned)(top / down), (unsigned)(left / across));
+            for (size_t y = top; y < height && y < top + down; y++) {
+                size_t end = left + across < width ? left + across : width;
+                while (end > left && cell[y * width + end - 1] == ' ') end--;
+                for (size_t x = left; x < end; x++) {
+                    uint32_t k = cell[y * width + x];
+                    if (k < 0x80) *at++ = (char)k;
+                    else {
+                        *at++ = (char)(0xE0 | k >> 12);
+                        *at++ = (char)(0x80 | (k >> 6 & 0x3F));
+                        *at++ = (char)(0x80 | (k & 0x3F));
+                    }
+                }
+                *at++ = '\n';
+            }
+        }
+    return (size_t)(at - to);
+}
+
+/* The example on sheets of every size up to 20 by 14, of none and of any, with the room exact, one short, none and more; where a title is
+ * missing, with a stand-in for it. */
+static void each_sheet(void) {
+    const uint32_t table[] = {0, 0, 1, 1, 1, 1, 1, 2, 1}, untitled[] = {0, 0, 1, 1, 1, 1, 1, 2, 0};
+    static char sheets[16 * CELLS];
+    struct plan p = plan(table, 9, "abc", 3), lost = plan(untitled, 9, "ab", 2), ragged = plan(table, 8, "abc", 3);
+    struct lent whole = lend(4 * CELLS), text = lend(5 * CELLS);
+    CHECK(is(call(NULL, &p, &whole, &text, 0), GIRTHLADDER_DONE, BYTES));
+    for (uint32_t across = 0; across < 22; across++)
+        for (uint32_t down = 0; down < 16; down++) {
+            uint32_t w = across == 21 ? 0xFFFFFFFF : across, h = down == 15 ? 0xFFFFFFFF : down;
+            size_t need = w && h ? cut((const uint32_t *)whole.at, 18, 12, w, h, sheets) : 0;
+            for (size_t k = 0; k < 5; k++) {
+                size_t room = k == 0 ? need : k == 1 ? (need ? need - 1 : 9) : k == 2 ? 0 : k == 3 ? need + 7 : 16 * CELLS, cells = k == 4 ? CELLS + 3 : CELLS;
+                struct lent canvas = lend(4 * cells), out = lend(room), five = lend(sizeof(struct girthladder_answer));
+                struct girthladder_answer *a = (struct girthladder_answer *)five.at;
+                const struct plan *q = k % 2 ? &lost : &p;
+                girthladder_sheets_standin((const uint32_t *)q->table.at, 9, q->titles.at, q->titles.size, 0, (const uint8_t *)(k % 2 ? "c" : NULL), 1, w, h,
+                                           (uint32_t *)canvas.at, cells, out.at, room, a);
+                if (!w || !h) CHECK(is(*a, GIRTHLADDER_SHEET, 0) && marked(&canvas, 0) && marked(&out, 0));
+                else {
+                    CHECK(memcmp(canvas.at, whole.at, 4 * CELLS) == 0 && marked(&canvas, 4 * CELLS));
+                    if (room < need) CHECK(is(*a, GIRTHLADDER_ROOM, need) && marked(&out, 0));
+                    else CHECK(is(*a, GIRTHLADDER_DONE, need) && a->width == 18 && a->height == 12 && a->untitled == k % 2
+                               && memcmp(out.at, sheets, need) == 0 && marked(&out, need));
+                }
+                CHECK(marked(&five, sizeof *a));
+                give_back(&canvas);
+                give_back(&out);
+                give_back(&five);
+            }
+        }
+    /* 15 before all others, and then the drawing's */
+    struct girthladder_answer a;
+    girthladder_sheets((const uint32_t *)ragged.table.at, 8, ragged.titles.at, 3, 0, 1, NULL, 0, 0, 7, NULL, 0, NULL, 0, &a);
+    CHECK(is(a, GIRTHLADDER_SHEET, 0));
+    girthladder_sheets((const uint32_t *)ragged.table.at, 8, ragged.titles.at, 3, 0, 1, NULL, 0, 10, 7, NULL, 0, NULL, 0, &a);
+    CHECK(is(a, GIRTHLADDER_RAGGED, 0));
+    girthladder_sheets((const uint32_t *)p.table.at, 9, p.titles.at, 3, 0, 0, NULL, 0, 10, 7, NULL, 0, NULL, 0, &a);
+    CHECK(is(a, GIRTHLADDER_CANVAS, CELLS));
+    give_back(&whole);
+    give_back(&text);
+    forget(&p);
+    forget(&lost);
+    forget(&ragged);
+}
+
 int main(void) {
     const uint32_t table[] = {0, 0, 1, 1, 1, 1, 1, 2, 1}, untitled[] = {0, 0, 1, 1, 1, 0, 1, 1, 0};
     struct plan p = plan(table, 9, "abc", 3), empty = plan(NULL, 0, NULL, 0), lost = plan(untitled, 9, "abc", 3);
@@ -665,6 +736,7 @@ int main(void) {
     each_reading();
     each_reason();
     each_panel();
+    each_sheet();
     forget(&p);
     forget(&empty);
     forget(&lost);

@@ -3,6 +3,7 @@
 
 mod rows;
 
+pub use crate::sheets::lent as sheets;
 use crate::{Fits, Look, Reason, Refusal};
 pub use rows::{rows, rows_with};
 
@@ -236,7 +237,7 @@ fn nodes(five: [u64; 5]) -> Result<usize, Refusal> {
 }
 
 // The bytes written, or the refusal.
-fn done(five: [u64; 5], table: &[u32], titles: &[u8], standin: &[u8]) -> Result<usize, Refusal> {
+pub(crate) fn done(five: [u64; 5], table: &[u32], titles: &[u8], standin: &[u8]) -> Result<usize, Refusal> {
     match five[0] {
         0 => Ok(five[1] as usize),
         number => Err(Refusal::of(number, five[1], table, titles, standin)),

@@ -34,12 +34,14 @@
 //!
 //! [`draw_rows`] draws the same with one row of cells in place of a canvas. [`why`] says of a step in the drawing why it is drawn where it
 //! is, and [`fits`] whether a drawing fits the screen.
+//! [`sheets`] cuts a drawing into sheets, for printing on several pages.
 
 mod fits;
 mod look;
 mod plan;
 mod reason;
 mod refusal;
+mod sheets;
 
 pub mod lent;
 
@@ -48,6 +50,7 @@ pub use look::Look;
 pub use plan::Plan;
 pub use reason::Reason;
 pub use refusal::Refusal;
+pub use sheets::{sheets, sheets_as, sheets_with};
 
 /// The most nodes of a plan.
 pub const MOST_NODES: usize = 256;

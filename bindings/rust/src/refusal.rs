@@ -39,6 +39,8 @@ pub enum Refusal {
     Undrawn,
     /// 13: no cell stands in this row and column; [`why`](crate::why) only.
     NoCell { row: u32, column: u32 },
+    /// 15: a sheet of this size has no cell; [`sheets`](crate::sheets()) only, before all others.
+    Sheet { width: u32, height: u32 },
 }
 
 impl Refusal {
@@ -61,6 +63,7 @@ impl Refusal {
             Refusal::Short { .. } => 9,
             Refusal::Undrawn => 10,
             Refusal::NoCell { .. } => 13,
+            Refusal::Sheet { .. } => 15,
         }
     }
 
@@ -130,6 +133,7 @@ impl fmt::Display for Refusal {
             Refusal::Short { needed } => write!(f, "the table or the titles are too short: {needed} entries, or else bytes, are needed"),
             Refusal::Undrawn => write!(f, "no ordinary plan is drawn as this picture"),
             Refusal::NoCell { row, column } => write!(f, "no cell stands in row {row} and column {column}"),
+            Refusal::Sheet { width, height } => write!(f, "a sheet of {width} by {height} characters holds nothing"),
         }
     }
 }

@@ -1,5 +1,5 @@
-//! Document 01's example and every refusal, through `draw`, `draw_rows`, `dot`, `fenced`, `read`, `why`, `fits` and on lent memory with marked numbers around each buffer.
-use girthladder::{dot, dot_with, draw, draw_as, draw_rows, draw_with, fenced, fenced_with, fits, lent, read, read_as, why, Fits, Look, Plan, Reason, Refusal};
+//! Document 01's example and every refusal, through `draw`, `draw_rows`, `dot`, `fenced`, `read`, `why`, `fits`, `sheets` and on lent memory with marked numbers around each buffer.
+use girthladder::{dot, dot_with, draw, draw_as, draw_rows, draw_with, fenced, fenced_with, fits, lent, read, read_as, sheets, sheets_as, sheets_with, why, Fits, Look, Plan, Reason, Refusal};
 
 const PICTURE: &str = "        0      1
    ┌──────────────
@@ -453,6 +453,74 @@ fn rows_are_those_of_the_canvas() {
     assert_eq!(lent::rows(&TABLE[..8], b"abc", &mut [0; 99], &mut []), Err(Refusal::Ragged { entries: 8 }));
     assert_eq!(lent::rows(&TABLE, b"ab\xFF", &mut [], &mut []), Err(Refusal::Utf8 { node: 2 }));
     assert_eq!(lent::rows_with(&TABLE, b"a\x7Fc", Look::new().plain(), Some(b"?"), &mut [], &mut []), Err(Refusal::Plain { node: 1 }));
+}
+
+// The drawing whose sheets these are, by their lines alone: each sheet's rows, padded and laid edge to edge.
+fn glued(text: &str, drawing: &str, across: usize, down: usize) -> String {
+    let (width, height) = (drawing.lines().map(|l| l.chars().count()).max().unwrap(), drawing.lines().count());
+    let (mut lines, mut rows) = (text.split('\n'), vec![String::new(); height]);
+    for (r, top) in (0..height).step_by(down).enumerate() {
+        for (c, left) in (0..width).step_by(across).enumerate() {
+            assert_eq!(lines.next().unwrap(), format!("sheet {r} {c}"));
+            let wide = across.min(width - left);
+            for row in &mut rows[top..height.min(top + down)] {
+                let line = lines.next().unwrap();
+                assert!(line.chars().count() <= wide && !line.ends_with(' '));
+                row.push_str(&format!("{line:wide$}"));
+            }
+        }
+    }
+    assert_eq!((lines.next(), lines.next()), (Some(""), None));
+    rows.iter().map(|row| format!("{}\n", row.trim_end_matches(' '))).collect()
+}
+
+#[test]
+fn sheets_for_the_run_book() {
+    let looks = [Look::new(), Look::new().fitted(), Look::new().plain(), Look::new().fitted().plain()];
+    let lost = plan(&[(0, "a"), (1, "b\nb"), (1, ""), (2, "c"), (0, "")]);
+    for look in looks {
+        for across in [1, 2, 3, 7, 10, 17, 18, 19, 25, 26, u32::MAX] {
+            for down in [1, 2, 5, 11, 12, 13, 18, 19, u32::MAX] {
+                let (wide, high) = (across as usize, down as usize);
+                let (drawing, shown) = (draw_as(&lost, look).unwrap(), draw_with(&lost, look, Some("no title")).unwrap());
+                assert_eq!(glued(&sheets_as(&lost, look, across, down).unwrap(), &drawing, wide, high), drawing);
+                assert_eq!(glued(&sheets_with(&lost, look, Some("no title"), across, down).unwrap(), &shown, wide, high), shown);
+            }
+        }
+    }
+    // 15 before all others, and in words
+    for (width, height) in [(0, 7), (10, 0), (0, 0)] {
+        let refusal = Refusal::Sheet { width, height };
+        assert_eq!(sheets(&example(), width, height), Err(refusal));
+        assert_eq!(sheets(&Plan::new(), width, height), Err(refusal));
+        assert_eq!(lent::sheets(&TABLE[..8], b"abc", looks[0], Some(b""), width, height, &mut [], &mut []), Err(refusal));
+        assert_eq!((refusal.number(), refusal.to_string()), (15, format!("a sheet of {width} by {height} characters holds nothing")));
+    }
+    assert_eq!(sheets(&Plan::new(), 10, 7), Err(Refusal::NoNode));
+    assert_eq!(sheets_with(&lost, looks[0], Some(""), 10, 7), Err(Refusal::Standin { length: 0 }));
+    assert_eq!(sheets_as(&plan(&[(0, "é")]), looks[2], 10, 7), Err(Refusal::Plain { node: 0 }));
+    // room for all sheets together, on lent memory
+    let all = sheets(&example(), 10, 7).unwrap();
+    assert_eq!(all.len(), 373);
+    for (cells, room) in [(CELLS, 373), (CELLS + 1, 380), (CELLS, 372), (CELLS, 0), (CELLS - 1, 373), (0, 0)] {
+        let (mut canvas, mut out) = (vec![0xA5A5A5A5u32; cells + 2 * MARGIN], vec![0xA5u8; room + 2 * MARGIN]);
+        let answer = lent::sheets(&TABLE, b"abc", looks[0], None, 10, 7, &mut canvas[MARGIN..MARGIN + cells], &mut out[MARGIN..MARGIN + room]);
+        let painted = if cells < CELLS { 0 } else { CELLS };
+        let written = if cells < CELLS || room < 373 { 0 } else { 373 };
+        assert_eq!(
+            answer,
+            match (painted, written) {
+                (0, _) => Err(Refusal::Canvas { needed: CELLS }),
+                (_, 0) => Err(Refusal::Room { needed: 373 }),
+                _ => Ok(lent::Drawing { bytes: 373, width: 18, height: 12, untitled: 0 }),
+            }
+        );
+        assert!(unchanged(&canvas[..MARGIN], &out[..MARGIN]) && unchanged(&canvas[MARGIN + painted..], &out[MARGIN + written..]));
+        assert_eq!(&out[MARGIN..MARGIN + written], &all.as_bytes()[..written]);
+        if painted > 0 {
+            assert_eq!((canvas[MARGIN + 18 + 3], canvas[MARGIN + 4 * 18 + 8]), (0x250C, 'a' as u32));
+        }
+    }
 }
 
 // A stand-in for polars-plan's TreeFmtNode, handed over as the README shows.

@@ -3,6 +3,7 @@ mod lent;
 mod line;
 mod question;
 mod row;
+mod sheet;
 
 ghost use Prim.Native.Nat.{_≤_};
 ghost use lib.ListN.{length};
@@ -19,13 +20,16 @@ pub fn bad() -> bool {
     false
 }
 
-// The kinds of request, and the looks that each takes: 1, fitted boxes, and 2, plain characters, for a drawing and for a picture; 4, a
-// stand-in, for a drawing and for a graph.
+// The kinds of request, and the looks that each takes: 1, fitted boxes, and 2, plain characters, for a drawing, its sheets and a picture;
+// 4, a stand-in, for a drawing, its sheets and a graph.
 fn known(kind: u32, look: u32) -> bool {
     if kind == 0 {
         return look < 8;
     }
     if kind == 5 {
+        return look < 8;
+    }
+    if kind == 9 {
         return look < 8;
     }
     if kind == 3 {
@@ -163,6 +167,24 @@ fn plan_request<'a>(
     true
 }
 
+// Where the stand-in ends that a payload begins with, if there is a whole one that is not too long; else 0.
+pub fn standin_in(payload: &[u8]) -> usize
+    ensures { λ r. ⌜ r ≤ length (now (payload .entry)) ⌝ }
+{
+    let size = payload.len();
+    if size < 4 {
+        return 0;
+    }
+    let bytes = wide(word(payload, 0));
+    if 4096 < bytes {
+        return 0;
+    }
+    if size - 4 < bytes {
+        return 0;
+    }
+    bytes + 4
+}
+
 // The stand-in that a payload begins with, and the plan after it.
 fn standin_request(
     kind: u32,
@@ -172,18 +194,10 @@ fn standin_request(
     cells: &mut [u32],
     out: &mut [u8],
 ) -> bool {
-    let size = payload.len();
-    if size < 4 {
+    let end = standin_in(payload);
+    if end < 4 {
         return false;
     }
-    let bytes = wide(word(payload, 0));
-    if 4096 < bytes {
-        return false;
-    }
-    if size - 4 < bytes {
-        return false;
-    }
-    let end = bytes + 4;
     plan_request(
         kind,
         look,
@@ -207,6 +221,9 @@ fn draw(
     if kind == 4 {
         line::print_drawing(plan_file::draw_file(payload, cells, out));
         return true;
+    }
+    if kind == 9 {
+        return sheet::draw(look, payload, table, cells, out);
     }
     if 3 < look {
         return standin_request(kind, look, payload, table, cells, out);

@@ -1,6 +1,7 @@
-// The door for C and Rust: drawing, graphs and reading on lent memory, and questions of a plan, the answer as five numbers.
+// The door for C and Rust: drawing, sheets, graphs and reading on lent memory, and questions of a plan, the answer as five numbers.
 mod question;
 mod row;
+mod run_book;
 
 ghost use mathlib.Core.Path.{_≡_};
 ghost use lib.ListN.{length};
@@ -17,6 +18,7 @@ pub use row::girthladder_rows_with;
 use rules::Answer;
 use rules::Drawing;
 use rules::Reading;
+pub use run_book::girthladder_sheets;
 
 // The same number.
 fn small(n: u32) -> u64
@@ -33,7 +35,7 @@ fn same(n: usize) -> u64
 }
 
 // The five numbers of a drawing.
-fn drawing_five(d: Drawing) -> [u64; 5]
+pub(crate) fn drawing_five(d: Drawing) -> [u64; 5]
     ensures { λ r. ⌜ r ≡ drawingFive d ⌝ }
 {
     let a = d.answer;

@@ -12,6 +12,7 @@ use Rattle.rules.specs.Drawing.{picture, canvasOf, endOf, rowText, textO
 use Rattle.rules.specs.Look.{printed, allowedIn}
 use Rattle.rules.specs.Graph.{escaped, joined, name, node, edge, entries, graph}
 use Rattle.rules.specs.Answers.{done, drew, inRoom, untitled, afterCells, afterPlan, answer, told, drawing, canvasAfter, outAfter, graphAnswer, graphAfter}
+use Rattle.rules.specs.Sheets.{parts, partSize, heading, sheetAt, sheetRows, sheet, sheets, sheetsOf, sheetsText, sheetsAnswer, sheetsDrawing, sheetsCanvasAfter, sheetsOutAfter}
 use Rattle.rules.specs.Ordinary.{endsInSpace, ordinaryTitle, ordinary}
 use Rattle.rules.specs.Reader.{tableOf, titlesOf, ended, pictureLines, pictureWidth, pictureArea, padded, placed, delivered, reading, canvasRead, writtenBy}
 use Rattle.rules.specs.File.{word, offsetIn, countIn, endsInTree, formed, tableIn, titlesIn, fileDrawing, fileCanvasAfter, fileOutAfter, refused, treetext}
@@ -30,6 +31,7 @@ unfolding pick keep every any greatest concat each total first halfUp same laid
     frame axis rowIndex columnIndex label box teeUp straight bends bend connector strokes canvas text
     printed allowedIn escaped joined name node edge entries graph
     done drew inRoom untitled afterCells afterPlan answer told drawing canvasAfter outAfter graphAnswer graphAfter
+    parts partSize heading sheetAt sheetRows sheet sheets sheetsOf sheetsText sheetsAnswer sheetsDrawing sheetsCanvasAfter sheetsOutAfter
     endsInSpace ordinaryTitle tableOf titlesOf ended pictureLines pictureWidth pictureArea padded placed delivered reading canvasRead writtenBy ordinary
     word offsetIn countIn endsInTree formed tableIn titlesIn fileDrawing fileCanvasAfter fileOutAfter refused treetext
     at from spaceThen trim C.joined next after group groups marked lineAt outside linesAt foundAt rowFrom bandOf found planFound candidate reads

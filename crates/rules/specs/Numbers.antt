@@ -1,4 +1,4 @@
--- Document 01, "Numbers it answers with": the table, and document 02's 12 and 17. (What is answered when, and the memory: Answers.antt.)
+-- Document 01, "Numbers it answers with": the table, and document 02's 12, 15 and 17. (What is answered when, and the memory: Answers.antt.)
 use mathlib.Core.List.{List}
 use mathlib.Core.Bool.{Bool, false, not, _||_}
 use Prim.Native.Nat.{ℕ, _+_, _%_}
@@ -11,7 +11,7 @@ use Rattle.rules.specs.Standin.{Standin, none, given}
 use Rattle.rules.specs.declared.Answer.{Answer}
 use Rattle.rules.specs.declared.Reading.{Reading}
 
--- the numbers of what a drawing, a graph and a file's drawing answer
+-- the numbers of what a drawing, its sheets, a graph and a file's drawing answer
 abbrev pub number : Answer → ℕ
 number (Answer.Done written) = 0
 number Answer.Ragged = 1
@@ -25,6 +25,7 @@ number (Answer.Canvas needed) = 8
 number (Answer.Room needed) = 9
 number Answer.Trailer = 11
 number Answer.Standin = 12
+number Answer.Sheet = 15
 number (Answer.Plain node) = 17
 
 -- and their second numbers
@@ -41,6 +42,7 @@ second (Answer.Canvas needed) = needed
 second (Answer.Room needed) = needed
 second Answer.Trailer = 0
 second Answer.Standin = 0
+second Answer.Sheet = 0
 second (Answer.Plain node) = node
 
 -- the numbers of the picture reader's answers

@@ -25,7 +25,7 @@ pub const MOST_TITLE: usize = 1024;
 
 pub const MOST_CELLS: usize = 1048576;
 
-// What a drawing, a graph or a file's drawing answers.
+// What a drawing, its sheets, a graph or a file's drawing answers.
 pub enum Answer {
     Done(usize),
     Ragged,
@@ -39,6 +39,7 @@ pub enum Answer {
     Room(usize),
     Trailer,
     Standin,
+    Sheet,
     Plain(usize),
 }
 

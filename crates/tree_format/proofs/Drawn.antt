@@ -2,31 +2,31 @@
 -- The rules give one answer by a chain of tests, so each way is that chain with its tests decided.
 use mathlib.Core.Path.{_≡_, refl, ap, sym, _∙_}
 use mathlib.Core.List.{List}
-use mathlib.Core.Bool.{Bool, true, false, _&&_, _||_, false≢true}
+use mathlib.Core.Bool.{Bool, true, false}
 use Prim.Native.Nat.{ℕ, _*_, _≤_, _<_}
 use native.Mathlib.Decide.{decLe}
 use native.Mathlib.Omega.{arith}
-use lib.Dec.{ltb, eqb}
 use lib.ListN.{length}
-use borrow.Author.Tests.{lt-ltb, le-ltb, eqb-true, ltb-false, ne-eqb}
+use borrow.Author.Tests.{lt-ltb, le-ltb}
 use Rattle.rules.specs.Look.{Look, lenOf, marksOf, allowedIn, lookOf}
 use Rattle.rules.specs.Standin.{Standin, standinOf, replaced}
 use Rattle.rules.specs.Base.{pick, laid}
 use Rattle.rules.specs.Plan.{Node, mostCells, planOf}
-use Rattle.rules.specs.Numbers.{number}
 use Rattle.rules.specs.Levels.{view}
 use Rattle.rules.specs.Measures.{canvasWidth, canvasHeight, area}
 use Rattle.rules.specs.Drawing.{Marks, canvas, text}
 use Rattle.rules.specs.Answers.{done, drew, afterCells, inRoom, untitled, afterPlan, answer, told as tellOf, drawing, canvasAfter, outAfter}
+use Rattle.rules.specs.Painting.{paintAnswer, painting, paintAfter}
 use Rattle.rules.specs.declared.Answer.{Answer}
 use Rattle.rules.specs.declared.Drawing.{Drawing}
 use Rattle.rules.specs.declared.Measure.{Measure}
 use Rattle.rules.specs.declared.Profile.{Profile}
-use Rattle.rules.proofs.Gates.{Early, Gate, lets, stops, gate-plan, gate-next, gate-stops}
+use Rattle.rules.proofs.Gates.{gate-plan, gate-next, gate-stops}
+use Rattle.rules.proofs.Painted.{painted-lets, painted-past, was-stopped}
 use Rattle.levels.specs.Accepted.{afterAll}
 use Rattle.levels.specs.Shown.{planShown, Showable}
 use Rattle.levels.proofs.Refused.{plan-all, all-showable}
-use Rattle.tree_format.specs.Drawn.{nothing, Written, cellsAnswer, sizes, Fills, paintAnswer, painting, paintAfter}
+use Rattle.tree_format.specs.Drawn.{nothing, Written, cellsAnswer, sizes, Fills}
 
 -- the last step, as its two ends show it
 pub short-of : {t out : List ℕ} {w h u need : ℕ} {r : Drawing} → need ≡ length t → length out < need → r ≡ nothing (Answer.Room need) → Written t out w h u r out
@@ -86,47 +86,22 @@ module _ (m : Measure) (f : Profile) (given : Bool) (S T B : List ℕ) (old : Li
 
 -- after the picture the text, over any tests
 module _ (look : Look) (s : Standin) (T B : List ℕ) where
-  open Look look using (len, marks, allowed)
+  open Look look using (len, marks)
 
   abbrev p : List Node
   p = replaced s (planOf T B)
 
-  abbrev needed : ℕ
-  needed = area len (view p)
-
   abbrev bytes : ℕ
   bytes = length (text len marks p)
 
-  -- the picture is painted: nothing was refused, and the cells suffice
-  pub record Painted (cells : ℕ) : Type 0 where
-    pub lets-all : (next : Answer) → afterPlan allowed s T B next ≡ next
-    pub few : needed ≤ mostCells
-    pub enough : needed ≤ cells
+  -- past the picture ROOM or done; else its refusal, whatever the output is
+  past : (cells room : ℕ) → done (paintAnswer look s T B cells) ≡ true → answer look s T B cells room ≡ inRoom room bytes
+  unfolding answer
+  past cells room ok = painted-past look s T B cells ok (inRoom room bytes)
 
-  by-cells : (cells : ℕ) (b c : Bool) → ltb mostCells needed ≡ b → ltb cells needed ≡ c → done (cellsAnswer len p cells) ≡ true → (needed ≤ mostCells) × (needed ≤ cells)
-  unfolding afterCells pick done
-  by-cells cells true c e f h = absurd (false≢true (rw e at h))
-  by-cells cells false true e f h = absurd (false≢true (rw (e, f) at h))
-  by-cells cells false false e f h = (ltb-false mostCells needed e, ltb-false cells needed f)
-
-  painted : (cells : ℕ) → Gate (afterPlan allowed s T B) → done (paintAnswer look s T B cells) ≡ true → Painted cells
-  unfolding paintAnswer
-  painted cells (lets g) h =
-      let q = by-cells cells (ltb mostCells needed) (ltb cells needed) refl refl (ap done (sym (g (cellsAnswer len p cells))) ∙ h) in
-      record { lets-all = g; few = q .0; enough = q .1 }
-  painted cells (stops a e g) h =
-      absurd (e .not-done (eqb-true (number a) 0 (unfold done in ap done (sym (g (cellsAnswer len p cells))) ∙ h)))
-
-  pub was-painted : (cells : ℕ) → done (paintAnswer look s T B cells) ≡ true → Painted cells
-  was-painted cells h = painted cells (gate-plan allowed s T B) h
-
-  pub painted-fits : (cells : ℕ) → done (paintAnswer look s T B cells) ≡ true → (needed ≤ mostCells) × (needed ≤ cells)
-  painted-fits cells h = let q = was-painted cells h in (q .few, q .enough)
-
-  -- then ROOM or done
-  past : (cells room : ℕ) → Painted cells → answer look s T B cells room ≡ inRoom room bytes
-  unfolding answer afterCells pick
-  past cells room q = q .lets-all _ ∙ rw (le-ltb mostCells needed (q .few), le-ltb cells needed (q .enough))
+  refused : (cells room : ℕ) → done (paintAnswer look s T B cells) ≡ false → answer look s T B cells room ≡ paintAnswer look s T B cells
+  unfolding answer
+  refused cells room h = was-stopped look s T B cells (inRoom room bytes) h .same
 
   -- what the three equations of a drawing say
   pub record Drawn (canvas₀ out : List ℕ) (r : Drawing) (canvas′ out′ : List ℕ) : Type 0 where
@@ -140,79 +115,34 @@ module _ (look : Look) (s : Standin) (T B : List ℕ) where
       → Drawn canvas₀ out r cells out′
   unfolding inRoom drawing tellOf canvasAfter outAfter drew pick done
   last-step {canvas₀} {out} ok e w =
-      let q = was-painted (length canvas₀) ok in
+      let q = past (length canvas₀) (length out) ok in
       elim (decLe bytes (length out)) [
         | yes h ↦
-            (let a : answer look s T B (length canvas₀) (length out) ≡ Answer.Done bytes = past (length canvas₀) (length out) q ∙ rw (le-ltb (length out) bytes h) in
+            (let a : answer look s T B (length canvas₀) (length out) ≡ Answer.Done bytes = q ∙ rw (le-ltb (length out) bytes h) in
             record { answered = w .enough h .0 ∙ rw a; canvas-left = e ∙ rw a; out-left = w .enough h .1 ∙ rw a })
         | no h ↦
             (let k : length out < bytes = omega arith in
-            let a : answer look s T B (length canvas₀) (length out) ≡ Answer.Room bytes = past (length canvas₀) (length out) q ∙ rw (lt-ltb (length out) bytes k) in
+            let a : answer look s T B (length canvas₀) (length out) ≡ Answer.Room bytes = q ∙ rw (lt-ltb (length out) bytes k) in
             record { answered = w .short k .0 ∙ rw a; canvas-left = e ∙ rw a; out-left = w .short k .1 ∙ rw a })
       ]
 
-  -- a picture that is not painted is a drawing that is refused, whatever the output is
-  record Stopped (cells room : ℕ) (a : Answer) : Type 0 where
-    same : answer look s T B cells room ≡ a
-    not-room : eqb (number a) 9 ≡ false
-
-  by-tests : (cells room : ℕ) (b c : Bool) → ltb mostCells needed ≡ b → ltb cells needed ≡ c → done (cellsAnswer len p cells) ≡ false
-      → (afterCells needed cells (inRoom room bytes) ≡ cellsAnswer len p cells) × (eqb (number (cellsAnswer len p cells)) 9 ≡ false)
-  unfolding afterCells pick done
-  by-tests cells room true c e f h = rw e (refl, refl)
-  by-tests cells room false true e f h = rw (e, f) (refl, refl)
-  by-tests cells room false false e f h = absurd (false≢true (sym (rw (e, f) at h)))
-
-  stopped : (cells room : ℕ) → Gate (afterPlan allowed s T B) → done (paintAnswer look s T B cells) ≡ false → Stopped cells room (paintAnswer look s T B cells)
-  unfolding answer paintAnswer
-  stopped cells room (lets g) h =
-      let i = g (cellsAnswer len p cells) in
-      let q = by-tests cells room (ltb mostCells needed) (ltb cells needed) refl refl (ap done (sym i) ∙ h) in
-      record { same = g _ ∙ q .0 ∙ sym i; not-room = ap (λ (a : Answer). eqb (number a) 9) i ∙ q .1 }
-  stopped cells room (stops a e g) h =
-      let i = g (cellsAnswer len p cells) in
-      record { same = g _ ∙ sym i; not-room = ap (λ (a : Answer). eqb (number a) 9) i ∙ ne-eqb (number a) 9 (e .not-room) }
-
+  -- a picture that is not painted is a drawing that is refused
   pub not-painted : (canvas₀ out : List ℕ) → done (paintAnswer look s T B (length canvas₀)) ≡ false
       → Drawn canvas₀ out (painting look s T B (length canvas₀)) canvas₀ out
   unfolding painting drawing tellOf canvasAfter outAfter drew pick
   not-painted canvas₀ out h =
-      let q = stopped (length canvas₀) (length out) (gate-plan allowed s T B) h in
+      let e = refused (length canvas₀) (length out) h in
+      let n = was-stopped look s T B (length canvas₀) (inRoom (length out) bytes) h .not-room in
       record {
-        answered = rw (q .same);
-        canvas-left = rw (q .same, h, q .not-room);
-        out-left = rw (q .same, h);
+        answered = rw e;
+        canvas-left = rw (e, h, n);
+        out-left = rw (e, h);
       }
-
-  -- what the answer of the picture tells
-  pub paint-said : (cells : ℕ) {r : Drawing} {b v : Bool} → r ≡ painting look s T B cells → b ≡ done (r .answer) → b ≡ v → done (paintAnswer look s T B cells) ≡ v
-  unfolding painting tellOf
-  paint-said cells e d h = ap (λ (r : Drawing). done (r .answer)) (sym e) ∙ sym d ∙ h
-
-  pub record Left (old : List ℕ) (r : Drawing) (new : List ℕ) : Type 0 where
-    pub width-is : r .width ≡ canvasWidth len (view p)
-    pub height-is : r .height ≡ canvasHeight (view p)
-    pub untitled-is : r .untitled ≡ untitled (planOf T B)
-    pub cells-are : new ≡ laid (canvas len marks p) old
-
-  pub painted-left : (old : List ℕ) {new : List ℕ} {r : Drawing} → done (paintAnswer look s T B (length old)) ≡ true → r ≡ painting look s T B (length old)
-      → new ≡ paintAfter look s T B old → Left old r new
-  unfolding painting paintAfter tellOf pick
-  painted-left old ok e f = record {
-    width-is = ap (λ (r : Drawing). r .width) e ∙ rw ok;
-    height-is = ap (λ (r : Drawing). r .height) e ∙ rw ok;
-    untitled-is = ap (λ (r : Drawing). r .untitled) e ∙ rw ok;
-    cells-are = f ∙ rw ok;
-  }
-
-  pub unpainted-left : (old : List ℕ) {new : List ℕ} → done (paintAnswer look s T B (length old)) ≡ false → new ≡ paintAfter look s T B old → new ≡ old
-  unfolding paintAfter pick
-  unpainted-left old h f = f ∙ rw h
 
 -- a plan that was painted is one that no refusal meets
 pub painted-showable : (m : Measure) (f : Profile) (given : Bool) (S T B : List ℕ) (cells : ℕ)
     → done (paintAnswer (lookOf m f) (standinOf given S) T B cells) ≡ true → Showable given S T B
 unfolding done
 painted-showable m f given S T B cells ok =
-    let q = was-painted (lookOf m f) (standinOf given S) T B cells ok in
-    all-showable true f given S T B (ap done (plan-all f (standinOf given S) T B (Answer.Done 0) ∙ q .lets-all (Answer.Done 0)))
+    all-showable true f given S T B
+    (ap done (plan-all f (standinOf given S) T B (Answer.Done 0) ∙ painted-lets (lookOf m f) (standinOf given S) T B cells ok (Answer.Done 0)))

@@ -1,5 +1,4 @@
 pub mod Drawn
-pub mod Picture
 pub mod Strokes
 pub mod Boxes
 pub mod Whole

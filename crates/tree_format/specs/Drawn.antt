@@ -5,32 +5,14 @@ use Prim.Native.Nat.{ℕ, _≤_, _<_}
 use lib.ListN.{length}
 use Rattle.rules.specs.Base.{pick, laid}
 use Rattle.rules.specs.Plan.{Node}
-use Rattle.rules.specs.Standin.{Standin}
 use Rattle.rules.specs.Levels.{view}
 use Rattle.rules.specs.Measures.{canvasWidth, canvasHeight, area}
 use Rattle.rules.specs.Drawing.{Marks, canvas}
-use Rattle.rules.specs.Look.{Look}
-use Rattle.rules.specs.Answers.{done, afterCells, shownPlan, afterPlan, told}
+use Rattle.rules.specs.Answers.{done, afterCells}
 use Rattle.rules.specs.declared.Answer.{Answer}
 use Rattle.rules.specs.declared.Drawing.{Drawing}
 
--- what is answered by one that paints the canvas and writes no text: refusals 1 to 8, 12 and 17 in a drawing's order, or Done with no bytes;
-module _ (look : Look) (s : Standin) (T B : List ℕ) where
-  open Look look using (len, marks, allowed)
-
-  unfoldable pub paintAnswer : (cells : ℕ) → Answer
-  paintAnswer cells =
-      afterPlan allowed s T B (afterCells (area len (view (shownPlan look s T B))) cells (Answer.Done 0))
-
-  -- with the size and the untitled count, as a drawing tells them;
-  unfoldable pub painting : (cells : ℕ) → Drawing
-  painting cells = told look s T B (paintAnswer cells)
-
-  -- and the canvas is changed by Done alone: it holds what a drawing leaves on it
-  unfoldable pub paintAfter : (old : List ℕ) → List ℕ
-  paintAfter old = pick (done (paintAnswer (length old))) (laid (canvas len marks (shownPlan look s T B)) old) old
-
--- the same of a plan p with u empty titles that no refusal before 7 meets
+-- what painting answers of a plan p with u empty titles that no refusal before 7 meets
 abbrev pub cellsAnswer : (len : List ℕ → ℕ) → List Node → (cells : ℕ) → Answer
 cellsAnswer len p cells = afterCells (area len (view p)) cells (Answer.Done 0)
 
