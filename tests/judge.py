@@ -7,7 +7,7 @@ put as a plain one, has to be what the second reading draws. With a stand-in the
 replaced. A drawing that is made row by row is held to the same text, of which the lent row has to hold the last line. Nothing here runs
 our code.
 """
-import functools, itertools, os, shutil, struct, subprocess, sys
+import functools, itertools, os, re, shutil, struct, subprocess, sys
 
 ROOT = os.path.dirname(os.path.dirname(os.path.abspath(__file__)))
 SHARED = os.path.join(os.path.dirname(ROOT), 'shared')
@@ -17,13 +17,15 @@ except ImportError: rules = None
 
 TEXT, GRAPH, FENCED, READ, FILE = 0, 1, 2, 3, 4
 ROWS = 5  # (iii)
+READ_FENCED = 7  # (viii)
 WHY, FITS, SHEETS = 6, 8, 9  # (vi), (ix), (x)
 DRAWN = TEXT, FILE, ROWS
 # a look: the crate's, and what is added to it: (iv) a line's length is its code points, (xiii) plain marks, (i) a stand-in is given
 BYTES, FITTED, PLAIN, GIVEN = 0, 1, 2, 4
-LOOKS = {TEXT: tuple(range(8)), GRAPH: (BYTES, GIVEN), FENCED: (BYTES, GIVEN), READ: tuple(range(4)), FILE: (BYTES,), WHY: (BYTES,), FITS: (BYTES,)}  # that a kind of request takes
+LOOKS = {TEXT: tuple(range(8)), GRAPH: (BYTES, GIVEN), FENCED: (BYTES, GIVEN), READ: tuple(range(4)), FILE: (BYTES,), WHY: (BYTES,), FITS: (BYTES,), READ_FENCED: (BYTES,)}  # that a kind of request takes
 LOOKS[ROWS] = LOOKS[SHEETS] = LOOKS[TEXT]
 STANDIN, NOCELL, NOT_PLAIN = 12, 13, 17  # (i) a stand-in that may not stand in; (vi) no cell stands there; (xiii) a title that does not keep to the bytes of the plain profile
+NOGRAPH = 14  # (viii) no plan is written as this graph
 SHEET = 15  # (x) sheets of no width or no height
 CELL, BYTE, PRIME = 0xA5A5A5A5, 0xA5, 4294967291
 MOST_LENT_CELLS, MOST_OUT, MOST_TITLES, MOST_ENTRIES, MOST_PAYLOAD, MOST_STANDIN = 262144, 524288, 262144, 1024, 524288, 4096
@@ -347,6 +349,65 @@ def sizes_read(plan):
     return [(v.width, v.height) for v in views]
 
 
+class Fenced:
+    """(viii) A text for the reader of fenced graphs. Whether some plan is written so, and which, says the second reading."""
+    plan = form = None
+    look = BYTES
+
+    def __init__(self, lent2, lent3, graph): self.lent2, self.lent3, self.graph = lent2, lent3, graph
+    def sent(self): return head(READ_FENCED, 0, self.lent2, self.lent3, len(self.graph)) + self.graph
+    def within(self): return self.lent2 <= MOST_ENTRIES and self.lent3 <= MOST_TITLES and len(self.graph) <= MOST_PAYLOAD
+
+    def line(self, crate):
+        number, second, table, titles = self.settled()
+        return '%d %d 0 0 0 0 %d %d' % (number, second, left(table, self.lent2, CELL), left(titles, self.lent3, BYTE))
+
+    def settled(self):
+        """Number, second number, and what the table and the titles begin with afterwards."""
+        plan = read_fenced(self.graph)
+        if not isinstance(plan, list): return plan, 0, [], b''
+        table, titles = laid(plan)
+        if len(table) > self.lent2: return rules.ROOM, len(table), [], b''
+        if len(titles) > self.lent3: return rules.ROOM, len(titles), [], b''
+        return rules.DONE, len(plan), table, titles
+
+
+NODE_LINE = re.compile(rb'    (n(\d+)_\d+) \[label="((?:[^"\\\n]|\\["\\n])*)", ordering="out"\]')
+EDGE_LINE = re.compile(rb'    (n\d+_\d+) -- (n\d+_\d+)')
+
+
+def read_fenced(graph):
+    """The plan with no empty title, within the limits, that is written as this fenced graph, or the refusal's number. The plan is found by
+    the edges, which name each node's children, and not by the columns; then it is written again and compared, so none is found wrongly, and
+    none is overlooked if each plan's graph leads back to it (`graph_leads_back`)."""
+    if not rules.valid(graph): return rules.UTF8
+    lines = graph.split(b'\n')
+    titles, children, roots = {}, {}, []
+    for l in [] if lines == [b'graph {', b'    ', b'}'] else lines[1:-1]:
+        node, edge = NODE_LINE.fullmatch(l), EDGE_LINE.fullmatch(l)
+        if node:
+            titles[node[1]] = re.sub(rb'\\(.)', lambda m: b'\n' if m[1] == b'n' else m[1], node[3])
+            if int(node[2]) == 0: roots.append(node[1])
+        elif edge: children.setdefault(edge[1], []).append(edge[2])
+        else: return NOGRAPH
+    plan, left = [], [(0, n) for n in reversed(roots)]
+    while left and len(plan) <= rules.NODES:
+        depth, n = left.pop()
+        plan.append((depth, titles.get(n, b'')))
+        left += [(depth + 1, k) for k in children.get(n, [])]
+    return plan if writable(plan) and fenced(plan) == graph else NOGRAPH
+
+
+def writable(plan):
+    """A plan with no empty title, within the limits on nodes, levels and titles."""
+    return all(t for _, t in plan) and not check(*laid(plan), text=False)
+
+
+def graph_leads_back(plan):
+    """The plan's fenced graph is read as the plan, if the plan is writable."""
+    return not writable(plan) or read_fenced(fenced(plan)) == plan
+
+
 def left(begun, lent, fill):
     """The sum of lent memory that begins so and is `fill` for the rest: s = s * 31 + v over all, modulo PRIME."""
     s = 0
@@ -563,3 +624,66 @@ def hurt(rng, picture, look=BYTES):
         at = rng.randrange(len(lines[k]))
         lines[k] = lines[k][:at] + lines[k][at + 1:]
     return ''.join(l + '\n' for l in lines).encode()
+
+
+# ---- fenced graphs
+
+FENCED_LETTERS = list('abn c0 nn]"]"\\\\\\"\n\n{}_-π') + ['é', '漢', '𝄞', '", ordering="out"]', '\n}', 'n0_0 -- n1_0', '    ', '\\n', '\\"', '\r', '\x00', '\u2028']
+
+
+def hurt_graph(rng, graph):
+    """A fenced graph with one fault, some of them harmless."""
+    lines = graph.split(b'\n')
+    k, j = rng.randrange(len(lines)), rng.randrange(len(lines))
+    nodes = [i for i, l in enumerate(lines) if l.endswith(b']')]
+    n = rng.choice(nodes or [0])
+    kind = rng.randrange(20)
+    at = rng.randrange(len(graph) + 1)
+    if kind == 0: return graph[:at] + bytes([rng.choice([10, 32, 34, 92, 110, 0x61, 0xe2, rng.randrange(256)])]) + graph[at + 1:]
+    if kind == 1: return graph[:at] + graph[at + 1:]
+    if kind == 2: return graph[:at] + bytes([rng.choice(b'\n "\\n]0_-a')]) + graph[at:]
+    if kind == 3: return graph + rng.choice([b'\n', b' ', b'}', b'\n}', b'\n\n', b'\x00', b'x', graph])
+    if kind == 4: return graph[:at]
+    if kind == 5: return rng.choice([b' ', b'\n', b'\xef\xbb\xbf', b'di']) + graph
+    if kind == 6: return graph.replace(b'\n', b'\r\n')
+    if kind == 7: lines[k], lines[j] = lines[j], lines[k]
+    elif kind == 8: lines.insert(k, lines[j])
+    elif kind == 9: del lines[k]
+    elif kind == 10: lines[k] = re.sub(rb'(n|_)(\d)', rb'\g<1>0\2', lines[k], count=rng.choice([0, 1]))  # leading zeros
+    elif kind == 11: lines[k] = re.sub(rb'_\d+', b'_%d' % rng.choice([0, 1, 2, 255, 256, 257, 65536, 10 ** 20]), lines[k], count=1)
+    elif kind == 12: lines[k] = re.sub(rb'n\d+_', b'n%d_' % rng.choice([0, 1, 2, 31, 32, 255, 256, 2 ** 32]), lines[k], count=1)
+    elif kind == 13: first_child_first(lines)
+    elif kind == 14 and nodes: lines[n] = re.sub(rb'".*", o', b'"", o', lines[n])  # an empty title
+    elif kind == 15 and nodes: lines[n] = re.sub(rb'", o', rng.choice([b'\\", o', b'"", o', b'\\a", o', b'\n", o', b'\\n", o', b'x' * 1024 + b'", o', b'\xff", o']), lines[n])
+    elif kind == 16 and nodes: lines[n] = re.sub(rb'\\(.)', rng.choice([rb'\1', b'\n', rb'\\', rb'\\\\\1']), lines[n], count=1)  # escapes undone, a raw 0A, a lone backslash
+    elif kind == 17: lines[k] = lines[k] + rng.choice([b' ', b';', b']', b'"]', b'\t'])
+    elif kind == 18: lines[k] = lines[k].replace(b'_', b'', 1)  # the crate's own name
+    elif kind == 19: lines[k] = lines[k].strip() if lines[k] else b'    '
+    return b'\n'.join(lines)
+
+
+def first_child_first(lines):
+    """Each node's edges the other way round."""
+    at = 0
+    for edge, run in itertools.groupby(list(lines), lambda l: b' -- ' in l):
+        run = list(run)
+        if edge: lines[at:at + len(run)] = reversed(run)
+        at += len(run)
+
+
+def slow_graphs():
+    """Texts that a reader might be slow over: half a megabyte of one letter, alone, as a label and on many lines; as many lines that end in
+    `]` as there may be; 256 nodes with 255 wrong edges each; 256 nodes under one, on 32 levels and on one, with labels as long as may be."""
+    size, node = MOST_PAYLOAD, b'    n%d_%d [label="%s", ordering="out"]\n'
+    around = lambda inside: b'graph {\n' + inside + b'}'
+    for letter in (b'"', b'\\', b'n', b']', b'\n', b' ', b'0', b'_', b'\\"', b'\\n', b']\n', b'    \n', '漢'.encode()):
+        yield letter * (size // len(letter))
+        yield around(node % (0, 0, letter * ((size - 60) // len(letter))))
+        yield around(letter * ((size - 9) // len(letter)))
+    yield around(b''.join(node % (min(k, 1), max(k - 1, 0), b'a') + b'n%d--n%d\n' % (k % 10, k % 7) * 255 for k in range(256)))
+    yield around(b''.join(node % (min(k, 1), max(k - 1, 0), b'a') + b'    n0_0 -- n1_%d\n' % (k % 10) * 80 for k in range(256)))
+    for plan in ([(min(k, 1), b'"' * 990) for k in range(256)], [(k % 32, b'\n' * 990) for k in range(256)], [(0, b'n' * 1024)] * 256, [(k % 2, b'\\' * 1000) for k in range(256)]):
+        graph = fenced(plan)
+        yield graph
+        yield graph[:-1] + b')'
+        yield graph[:-2] + b' \n}'

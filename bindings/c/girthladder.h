@@ -1,5 +1,5 @@
-/* Girthladder for C and C++: query plans as trees of boxes, on a canvas, row by row or on sheets, and as graphs, such trees read back, why a step is
- * drawn where it is, and whether a drawing fits the screen.
+/* Girthladder for C and C++: query plans as trees of boxes, on a canvas, row by row or on sheets, and as graphs, such trees and fenced graphs
+ * read back, why a step is drawn where it is, and whether a drawing fits the screen.
  *
  * A plan is a table and the bytes of its titles. The table has three uint32_t for each node, nodes depth first:
  *
@@ -55,14 +55,15 @@ enum girthladder_number {
     GIRTHLADDER_NONE = 3,   /* no node, drawing and girthladder_fits: 0 */
     GIRTHLADDER_DEPTH = 4,  /* the depth rule is broken, or a depth is over 31: the first such node, counted from 0 */
     GIRTHLADDER_TITLE = 5,  /* a title reaches past the title bytes, or has over 1,024: the first such node */
-    GIRTHLADDER_UTF8 = 6,   /* a title is not valid UTF-8: the first such node; reading: the picture is not, 0 */
+    GIRTHLADDER_UTF8 = 6,   /* a title is not valid UTF-8: the first such node; reading: the picture or the graph is not, 0 */
     GIRTHLADDER_STANDIN = 12, /* the stand-in is empty, has over 1,024 bytes or is not valid UTF-8, or is not plain in a plain drawing: 0 */
     GIRTHLADDER_NOT_PLAIN = 17, /* GIRTHLADDER_PLAIN, and a title has a byte that is not 20 to 7E or '\n', drawing only: the first such node */
     GIRTHLADDER_LARGE = 7,  /* over 1,048,576 cells, drawing and reading: 0 */
     GIRTHLADDER_CANVAS = 8, /* the canvas is too short, drawing and reading: cells needed; girthladder_rows: the row is, the width */
     GIRTHLADDER_ROOM = 9,   /* the output is too short: bytes needed; reading: see there */
     GIRTHLADDER_UNDRAWN = 10, /* no ordinary plan is drawn as this picture, reading only: 0 */
-    GIRTHLADDER_NOCELL = 13 /* no cell stands there, girthladder_why only: 0 */
+    GIRTHLADDER_NOCELL = 13, /* no cell stands there, girthladder_why only: 0 */
+    GIRTHLADDER_NOGRAPH = 14 /* no plan is written as this graph, girthladder_read_fenced only: 0 */
 };
 
 /* How a drawing looks, for the functions that end in `_as`: a sum of these switches. 0 is the crate's look, that of girthladder_text.
@@ -268,6 +269,22 @@ void girthladder_read_as(const uint8_t *picture, size_t picture_length,
                          uint32_t *table, size_t table_length,
                          uint8_t *titles, size_t titles_length,
                          struct girthladder_answer *answer);
+
+/* Reads a fenced graph back. It is accepted exactly when some plan with no empty title, within the limits on nodes, levels and titles, is
+ * written as those very bytes by girthladder_fenced; that plan is answered, and there is no second one. Titles may end in spaces; the limit
+ * on cells plays no part; and the 14 bytes of a graph without nodes give the plan of no nodes. The order of the edges, last child first, is
+ * part of the form: what Graphviz itself writes is another one, and NOGRAPH.
+ *   DONE    table[0 .. 3 * second) holds the plan's nodes, `second` of them; titles holds their titles one after another from 0 on.
+ *           What lies beyond is unchanged.
+ *   UTF8    the graph is not valid UTF-8: 0.
+ *   NOGRAPH no such plan is written so: 0.
+ *   ROOM    the table is too short: entries needed; else the titles are: bytes needed.
+ * Looked for in this order. Table and titles change with DONE alone. width, height and untitled are 0.
+ * How much to lend: 768 entries of table and as many title bytes as the graph has are always room enough. */
+void girthladder_read_fenced(const uint8_t *graph, size_t graph_length,
+                             uint32_t *table, size_t table_length,
+                             uint8_t *titles, size_t titles_length,
+                             struct girthladder_answer *answer);
 
 /* What girthladder_why says of a cell. p and q are nodes, counted from 0; a node that is not named is 0. */
 enum girthladder_case {

@@ -1,4 +1,4 @@
-/* Draws document 01's example through girthladder.h and reads it back, meets each refusal, and tries every length around what is needed.
+/* Draws document 01's example through girthladder.h and reads it back, its fenced graph too, meets each refusal, and tries every length around what is needed.
  * Each lent memory ends at a page that may not be touched and has marked bytes before it; tables and titles are lent read-only. */
 #define _DEFAULT_SOURCE
 #include "girthladder.h"
@@ -445,6 +445,76 @@ static void each_reading(void) {
     }
 }
 
+/* The answer of reading these bytes as a fenced graph. */
+static struct girthladder_answer graph_reading(const void *bytes, size_t size, struct lent *table, struct lent *titles, int null) {
+    struct lent graph = read_only(bytes, size), five = lend(sizeof(struct girthladder_answer));
+    struct girthladder_answer a, *answer = (struct girthladder_answer *)five.at;
+    girthladder_read_fenced(pointer(&graph, null), size, (uint32_t *)pointer(table, null), table->size / 4, (uint8_t *)pointer(titles, null), titles->size, answer);
+    CHECK(marked(&five, sizeof a));
+    a = *answer;
+    CHECK(a.width == 0 && a.height == 0 && a.untitled == 0);
+    give_back(&five);
+    give_back(&graph);
+    return a;
+}
+
+/* A text that is not accepted, with memory and without any: this number; the table and the titles stay. */
+static void not_a_graph(const void *bytes, size_t size, uint64_t number) {
+    for (int null = 0; null < 2; null++) {
+        struct lent table = lend(4 * 768), titles = lend(999), none = lend(0);
+        CHECK(is(graph_reading(bytes, size, &table, &titles, null), number, 0) && marked(&table, 0) && marked(&titles, 0));
+        CHECK(is(graph_reading(bytes, size, &none, &none, null), number, 0) && marked(&none, 0));
+        give_back(&table);
+        give_back(&titles);
+        give_back(&none);
+    }
+}
+
+/* The example's fenced graph read back with memory of each length; each byte of it changed; what is none. */
+static void each_graph(void) {
+    static const uint32_t plan[] = {0, 0, 1, 1, 1, 1, 1, 2, 1};
+    static const char swapped[] = "graph {\n    n0_0 [label=\"a\", ordering=\"out\"]\n    n0_0 -- n1_0\n    n0_0 -- n1_1\n"
+                                  "    n1_0 [label=\"b\", ordering=\"out\"]\n    n1_1 [label=\"c\", ordering=\"out\"]\n}";
+    static const char zero[] = "graph {\n    n0_00 [label=\"a\", ordering=\"out\"]\n}";
+    static const char lone[] = "graph {\n    n0_0 [label=\"\\a\", ordering=\"out\"]\n}";
+    static uint8_t hurt[sizeof fenced];
+    struct lent none = lend(0);
+    for (int null = 0; null < 2; null++) {
+        for (size_t entries = 0; entries < 20; entries++)
+            for (size_t bytes = 0; bytes < 9; bytes++) {
+                struct lent table = lend(4 * entries), titles = lend(bytes);
+                struct girthladder_answer a = graph_reading(fenced, sizeof fenced - 1, &table, &titles, null);
+                int done = entries >= 9 && bytes >= 3;
+                if (entries < 9) CHECK(is(a, GIRTHLADDER_ROOM, 9));
+                else if (bytes < 3) CHECK(is(a, GIRTHLADDER_ROOM, 3));
+                else CHECK(is(a, GIRTHLADDER_DONE, 3) && memcmp(table.at, plan, sizeof plan) == 0 && memcmp(titles.at, "abc", 3) == 0);
+                CHECK(marked(&table, done ? sizeof plan : 0) && marked(&titles, done ? 3 : 0));
+                give_back(&table);
+                give_back(&titles);
+            }
+        CHECK(is(graph_reading("graph {\n    \n}", 14, &none, &none, null), GIRTHLADDER_DONE, 0) && marked(&none, 0));
+    }
+    for (size_t k = 0; k + 1 < sizeof fenced; k++) {
+        struct lent table = lend(4 * 768), titles = lend(999);
+        memcpy(hurt, fenced, sizeof fenced);
+        hurt[k] = hurt[k] == 'x' ? 'y' : 'x';
+        struct girthladder_answer a = graph_reading(hurt, sizeof fenced - 1, &table, &titles, 0);
+        /* a title changed is another plan; all else is none */
+        CHECK(a.number == (fenced[k - (k > 0)] == '"' && fenced[k] >= 'a' && fenced[k] <= 'c' ? GIRTHLADDER_DONE : GIRTHLADDER_NOGRAPH));
+        give_back(&table);
+        give_back(&titles);
+    }
+    not_a_graph(NULL, 0, GIRTHLADDER_NOGRAPH);
+    not_a_graph(fenced, sizeof fenced, GIRTHLADDER_NOGRAPH);
+    not_a_graph(fenced, sizeof fenced - 2, GIRTHLADDER_NOGRAPH);
+    not_a_graph(bare, sizeof bare - 1, GIRTHLADDER_NOGRAPH);
+    not_a_graph(swapped, sizeof swapped - 1, GIRTHLADDER_NOGRAPH);
+    not_a_graph(zero, sizeof zero - 1, GIRTHLADDER_NOGRAPH);
+    not_a_graph(lone, sizeof lone - 1, GIRTHLADDER_NOGRAPH);
+    not_a_graph("\xC0\x80", 2, GIRTHLADDER_UTF8);
+    give_back(&none);
+}
+
 /* Two plans on one sheet: drawn, read back, and as a graph. */
 static void two_roots(void) {
     const uint32_t table[] = {0, 0, 1, 0, 1, 1, 1, 2, 1};
@@ -734,6 +804,7 @@ int main(void) {
     each_in_rows();
     each_refusal();
     each_reading();
+    each_graph();
     each_reason();
     each_panel();
     each_sheet();

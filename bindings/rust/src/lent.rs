@@ -7,6 +7,8 @@ pub use crate::sheets::lent as sheets;
 use crate::{Fits, Look, Reason, Refusal};
 pub use rows::{rows, rows_with};
 
+pub use crate::graph_reader::lent::read_fenced;
+
 // girthladder.h. An empty slice's pointer is never read through.
 extern "C" {
     fn girthladder_text_with(

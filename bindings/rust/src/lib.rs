@@ -1,4 +1,4 @@
-//! Query plans as trees of boxes and as graphs, and such trees read back, by the proved library behind `girthladder.h`.
+//! Query plans as trees of boxes and as graphs, and such trees and graphs read back, by the proved library behind `girthladder.h`.
 //!
 //! ```
 //! use girthladder::Plan;
@@ -32,11 +32,12 @@
 //! assert!(text.contains("│ (no title) │"));
 //! ```
 //!
-//! [`draw_rows`] draws the same with one row of cells in place of a canvas. [`why`] says of a step in the drawing why it is drawn where it
-//! is, and [`fits`] whether a drawing fits the screen.
+//! [`draw_rows`] draws the same with one row of cells in place of a canvas. [`read_fenced`] reads back what [`fenced`] writes.
+//! [`why`] says of a step in the drawing why it is drawn where it is, and [`fits`] whether a drawing fits the screen.
 //! [`sheets`] cuts a drawing into sheets, for printing on several pages.
 
 mod fits;
+mod graph_reader;
 mod look;
 mod plan;
 mod reason;
@@ -46,6 +47,7 @@ mod sheets;
 pub mod lent;
 
 pub use fits::Fits;
+pub use graph_reader::read_fenced;
 pub use look::Look;
 pub use plan::Plan;
 pub use reason::Reason;

@@ -1,4 +1,4 @@
-//! Why a plan was not drawn, a picture not read or a question not answered, in words.
+//! Why a plan was not drawn, a picture or a graph not read or a question not answered, in words.
 
 use std::fmt;
 
@@ -31,12 +31,14 @@ pub enum Refusal {
     Row { needed: usize },
     /// 9: the lent output is too short.
     Room { needed: usize },
-    /// 6: the picture is not valid UTF-8; reading only.
+    /// 6: the picture or the graph is not valid UTF-8; reading only.
     NotText,
     /// 9: the lent table is too short, `needed` entries; else the lent titles are, `needed` bytes; reading only.
     Short { needed: usize },
     /// 10: no ordinary plan is drawn as this picture; reading only.
     Undrawn,
+    /// 14: no plan with no empty title, within the limits, is written as this graph; [`read_fenced`](crate::read_fenced) only.
+    NoGraph,
     /// 13: no cell stands in this row and column; [`why`](crate::why) only.
     NoCell { row: u32, column: u32 },
     /// 15: a sheet of this size has no cell; [`sheets`](crate::sheets()) only, before all others.
@@ -62,6 +64,7 @@ impl Refusal {
             Refusal::NotText => 6,
             Refusal::Short { .. } => 9,
             Refusal::Undrawn => 10,
+            Refusal::NoGraph => 14,
             Refusal::NoCell { .. } => 13,
             Refusal::Sheet { .. } => 15,
         }
@@ -76,7 +79,8 @@ impl Refusal {
             8 => Refusal::Canvas { needed },
             9 => Refusal::Short { needed },
             10 => Refusal::Undrawn,
-            _ => unreachable!("a reading answers 0 or 6 to 10"),
+            14 => Refusal::NoGraph,
+            _ => unreachable!("a reading answers 0, 6 to 10 or 14"),
         }
     }
 
@@ -129,9 +133,10 @@ impl fmt::Display for Refusal {
             Refusal::Canvas { needed } => write!(f, "the canvas is too short: the drawing needs {needed} cells"),
             Refusal::Row { needed } => write!(f, "the row is too short: the drawing is {needed} cells wide"),
             Refusal::Room { needed } => write!(f, "the output is too short: {needed} bytes are needed"),
-            Refusal::NotText => write!(f, "the picture is not valid UTF-8"),
+            Refusal::NotText => write!(f, "what is to be read is not valid UTF-8"),
             Refusal::Short { needed } => write!(f, "the table or the titles are too short: {needed} entries, or else bytes, are needed"),
             Refusal::Undrawn => write!(f, "no ordinary plan is drawn as this picture"),
+            Refusal::NoGraph => write!(f, "no plan with all its titles is written as this graph"),
             Refusal::NoCell { row, column } => write!(f, "no cell stands in row {row} and column {column}"),
             Refusal::Sheet { width, height } => write!(f, "a sheet of {width} by {height} characters holds nothing"),
         }

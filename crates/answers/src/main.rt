@@ -1,4 +1,5 @@
 // Answers many requests in one run, for tests: the numbers of each answer, and a checksum of all lent memory.
+mod fenced;
 mod lent;
 mod line;
 mod question;
@@ -36,6 +37,9 @@ fn known(kind: u32, look: u32) -> bool {
         return look < 4;
     }
     if kind == 4 {
+        return look == 0;
+    }
+    if kind == 7 {
         return look == 0;
     }
     if question::known(kind) {
@@ -373,7 +377,7 @@ fn reading(
     )
 }
 
-// Answers a request whose head was read: kind 3 has a picture to read, kinds 6 and 8 are questions of a plan. (op = kind + 256 × look.)
+// Answers a request whose head was read: kind 3 has a picture to read, kind 7 a fenced graph, kinds 6 and 8 are questions of a plan. (op = kind + 256 × look.)
 fn asked(
     head: &[u8],
     input: &mut [u8],
@@ -389,6 +393,9 @@ fn asked(
     }
     if kind == 3 {
         return reading(look, head, input, table, cells, out);
+    }
+    if kind == 7 {
+        return fenced::request(head, input, table, out);
     }
     if question::known(kind) {
         return question::request(kind, head, input, table);

@@ -23,10 +23,11 @@ use Rattle.levels.specs.Shown.{Shows}
 use Rattle.levels.specs.Between.{cellOf, cellsBetween}
 use Rattle.levels.proofs.Walks.{previous-most, previous-holds, previous-after}
 use Rattle.levels.proofs.Between.{view-cells, cell-of}
+use Rattle.levels.proofs.Shown.{accepted-shows}
 use Rattle.explain.specs.declared.Reason.{Reason}
 use Rattle.explain.specs.Reasons.{Titled, At, TrueParent, Tells, Right, nowhere, of-cell}
 use Rattle.explain.specs.Sought.{lastAbove, underOf, reasonOf}
-use Rattle.explain.proofs.Titles.{one-place, not-both, accepted-shows, inside, shown-titled, cell-titled, titled-cell, no-cell-untitled, row-has}
+use Rattle.explain.proofs.Titles.{one-place, not-both, inside, shown-titled, cell-titled, titled-cell, no-cell-untitled, row-has}
 use Rattle.explain.proofs.Under.{Nearest, nearest-drawn, drawn-one, titled-draws, none-left, no-line}
 use Rattle.explain.proofs.Parents.{parent-one, parent-found}
 

@@ -19,10 +19,11 @@ use Rattle.levels.specs.Cells.{cellIn}
 use Rattle.levels.proofs.Accepted.{checked-accepted, depth-first}
 use Rattle.levels.proofs.Plans.{column-bytes, depth-whole, depth-past}
 use Rattle.levels.proofs.Cells.{cell-deep}
+use Rattle.levels.proofs.Shown.{accepted-shows}
 use Rattle.explain.specs.declared.Reason.{Reason}
 use Rattle.explain.specs.Reasons.{At, Right, nowhere, of-cell, refusal, Explains}
 use Rattle.explain.specs.Sought.{standsIn, answerOf}
-use Rattle.explain.proofs.Titles.{accepted-shows, inside, cell-titled, titled-cell}
+use Rattle.explain.proofs.Titles.{inside, cell-titled, titled-cell}
 use Rattle.explain.proofs.Reasons.{reason-tells, one-right}
 
 module _ {T B : List ℕ} (a : Accepted T B) (i j : ℕ) where

@@ -1,6 +1,6 @@
 -- Titled nodes of what a table shows are those that `cellIn` finds in the row of their depth, and a row and a column belong to one node.
 -- A title is empty in the plan where the table shows none; columns never fall along the table, and nodes of one row stand apart.
-use mathlib.Core.Path.{_≡_, refl, sym, ap, subst, _∙_}
+use mathlib.Core.Path.{_≡_, refl, sym, ap, _∙_}
 use mathlib.Core.List.{List, [], List·Memᴰ, List·Memᴰ·head, Memᴰ·append-right}
 use mathlib.Core.Bool.{Bool, true, false, false≢true}
 use Prim.Native.Nat.{ℕ, suc, _≤_, _<_}
@@ -9,15 +9,12 @@ use native.Mathlib.Omega.{arith}
 use lib.Dec.{eqb}
 use lib.ListN.{length, List·getD-eq-default}
 use borrow.Author.Tests.{eq-eqb, ne-eqb, eqb-false, not-false}
-use Rattle.rules.specs.Plan.{Node, count, depthIn, planOf, nodeAt, depthAt}
+use Rattle.rules.specs.Plan.{Node, count, depthIn, nodeAt, depthAt}
 use Rattle.rules.specs.Levels.{columnAt, inRow}
-use Rattle.rules.proofs.Replaced.{replaced-none}
 use Rattle.rules.proofs.Tests.{both}
-use Rattle.levels.specs.Accepted.{Accepted}
 use Rattle.levels.specs.Shown.{Shows}
 use Rattle.levels.specs.Cells.{titledIn, cellIn}
 use Rattle.levels.specs.Between.{cellOf, cellsBetween}
-use Rattle.levels.proofs.Shown.{shows}
 use Rattle.levels.proofs.Between.{row-split, row-first}
 use Rattle.levels.proofs.Cells.{columns-apart}
 use Rattle.explain.specs.Reasons.{Titled, Untitled}
@@ -85,9 +82,3 @@ module _ {given : Bool} {T : List ℕ} {p : List Node} (a : Shows given T p) whe
   row-has i x k e h g l c =
       rw (row-split a i x k e h (omega arith), row-first a i k k e (omega arith) g l c (λ n f q. absurd (omega arith)))
       (Memᴰ·append-right (inRow (cellsBetween p x k) i) (List·Memᴰ·head refl))
-
--- an accepted table shows its plan as it is given, without a stand-in
-pub accepted-shows : {T B : List ℕ} → Accepted T B → Shows false T (planOf T B)
-accepted-shows {T} {B} a =
-    subst (Shows false T) (replaced-none (planOf T B))
-    (shows {given = false} {S = []} (record { table = a; standin = λ e. absurd (false≢true e) }))

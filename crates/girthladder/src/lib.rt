@@ -1,4 +1,5 @@
 // The door for C and Rust: drawing, sheets, graphs and reading on lent memory, and questions of a plan, the answer as five numbers.
+mod graph_reader;
 mod question;
 mod row;
 mod run_book;
@@ -11,6 +12,7 @@ ghost use Rattle.rules.specs.Graph.{bare, fenced};
 ghost use Rattle.rules.specs.Answers.{drawing, canvasAfter, outAfter, graphAnswer, graphAfter};
 ghost use Rattle.rules.specs.Switches.{givenOf, lookIn};
 ghost use Rattle.girthladder.specs.Five.{drawingFive, graphFive, readingFive, ReadFive};
+pub use graph_reader::girthladder_read_fenced;
 pub use question::girthladder_fits;
 pub use question::girthladder_why;
 pub use row::girthladder_rows;
@@ -56,7 +58,7 @@ fn graph_five(a: Answer) -> [u64; 5]
 }
 
 // The five numbers of a reading.
-fn reading_five(r: Reading) -> [u64; 5]
+pub(crate) fn reading_five(r: Reading) -> [u64; 5]
     ensures { λ a. ⌜ a ≡ readingFive r ⌝ }
 {
     [

@@ -12,3 +12,5 @@ pub mod Tests
 pub mod Between
 pub mod Cells
 pub mod Children
+pub mod Tables
+pub mod OneMore

@@ -30,7 +30,7 @@ use Rattle.tree_view.proofs.Table.{cell-some, lines-cell, longest-cell}
 use Rattle.tree_view.proofs.Laid.{at-whole}
 use Rattle.picture_same.specs.Given.{Given}
 use Rattle.picture_same.proofs.Centres.{deep-seen}
-use Rattle.picture_same.proofs.Tables.{length-table, depth-table, plan-table}
+use Rattle.levels.proofs.Tables.{length-table, depth-table, plan-table}
 use Rattle.picture.specs.Standing.{Stands, Standing, titlesBy, Told}
 use Rattle.picture.specs.Answered.{Picture, Kept, Accepted}
 use Rattle.picture.proofs.Giving.{titles-told}

@@ -1,5 +1,3 @@
-pub mod Titles
-pub mod Stored
 pub mod Giving
 pub mod OnCanvas
 pub mod Kept

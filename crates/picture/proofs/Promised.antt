@@ -7,10 +7,10 @@ use native.Mathlib.Nat.{mul-le-mul-left, mul-le-mul-right}
 use native.Mathlib.Omega.{arith}
 use lib.Dec.{ltb}
 use lib.ListN.{length, take}
-use borrow.Author.Tests.{ne-eqb, ltb-false, not-true}
+use borrow.Author.Tests.{ltb-false, not-true}
 use Rattle.rules.specs.Look.{Look, allowedIn}
 use Rattle.rules.specs.declared.Profile.{Profile}
-use Rattle.rules.specs.Base.{pick, every}
+use Rattle.rules.specs.Base.{every}
 use Rattle.rules.specs.Utf8.{points}
 use Rattle.rules.specs.Plan.{Node}
 use Rattle.rules.specs.Numbers.{readerNumber}
@@ -23,6 +23,7 @@ use Rattle.rules.proofs.Kept.{Kept, every-byte}
 use Rattle.rules.proofs.Lines.{linesOf-some}
 use Rattle.marks.proofs.Reader.{reads-right}
 use Rattle.marks.specs.Lawful.{Lawful}
+use Rattle.delivery.proofs.Answers.{unwritten}
 use Rattle.picture_lay.specs.Started.{Started}
 use Rattle.picture_lay.proofs.Refusals.{reading-started, passed, stopped, put-there, not-there}
 use Rattle.picture_sight.specs.Plan.{planSeen}
@@ -30,12 +31,6 @@ use Rattle.picture.specs.Answered.{Picture, Answered, refused, accepted}
 use Rattle.picture.proofs.OnCanvas.{held-cells, cells-there, cells-few}
 use Rattle.picture.proofs.Kept.{allowing, ordinary-with, keeps-drawn, drawn-keeps}
 use Rattle.picture.proofs.Theorems.{accepted-is-drawn, undrawn-is-none, spaced-is-none, empty-is-none}
-
--- only done writes
-unwritten : (part : List Node → List ℕ) (f : Found) (r : Reading) (old : List ℕ) → 1 ≤ readerNumber r → old ≡ writtenBy part f r old
-unfolding writtenBy pick
-unwritten part nothing r old h = refl
-unwritten part (plan p) r old h = rw (ne-eqb (readerNumber r) 0 (λ e. omega arith)) refl
 
 module _ (look : Look) (ok : Lawful (look .len) (look .marks)) (P old table titles new : List ℕ) (answer : Reading) (lines width : ℕ) (spaces : Bool) (st : Started P old new answer lines width spaces) where
   -- the first refusal

@@ -19,7 +19,7 @@ use Rattle.marks.proofs.Text.{Held}
 use Rattle.picture_sight.specs.Seen.{seen}
 use Rattle.picture_sight.specs.Plan.{planSeen}
 use Rattle.picture_gather.specs.Gathered.{Gathered, Misfit}
-use Rattle.picture.specs.Standing.{Delivers}
+use Rattle.delivery.specs.Delivers.{Delivers}
 
 -- the look as the code holds it; the profile's rule of bytes is asked of the whole picture before, and of no title here
 abbrev pub lookIn : Measure → Glyphs → Look

@@ -6,20 +6,9 @@ ghost use lib.ListN.{length, getD};
 ghost use Rattle.rules.specs.Base.{laid};
 ghost use Rattle.rules.specs.Plan.{Node};
 ghost use Rattle.picture_sight.specs.Seen.{seen};
-ghost use Rattle.picture.specs.Standing.{Standing, titlesBy, Told, Delivers};
+ghost use Rattle.delivery.specs.Delivers.{Delivers};
+ghost use Rattle.picture.specs.Standing.{Standing, titlesBy, Told};
 use rules::Reading;
-
-// Copies the table.
-fn give_table(found: &[u32], out: &mut [u32])
-    requires { ⌜ length (now found) ≤ length (now out) ⌝ }
-    ensures { λ _. ⌜ now (out .exit) ≡ laid (now (found .entry)) (now (out .entry)) ⌝ }
-{
-    let mut k = 0;
-    while k < found.len() {
-        out[k] = found[k];
-        k += 1;
-    }
-}
 
 // Writes the titles that stand on the cells, one after another.
 fn give_titles(
@@ -82,7 +71,7 @@ pub(crate) fn deliver(
     if titles.len() < bytes {
         return Reading::Room(bytes);
     }
-    give_table(found, table);
+    delivery::give_table(found, table);
     give_titles(
         cells,
         width,

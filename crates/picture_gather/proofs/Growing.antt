@@ -18,7 +18,7 @@ use Rattle.picture_sight.specs.Plan.{cellsSeen}
 use Rattle.picture_gather.specs.Gathered.{Gathered, cellSeen, middleOf}
 use Rattle.picture_gather.specs.Partly.{nodesOf, Fitting, Partly}
 use Rattle.picture_gather.proofs.Nodes.{plan-cells, length-nodes, title-seen, depth-seen, lines-seen, longest-seen, nodes-snoc, all-more, cells-more}
-use Rattle.picture_gather.proofs.Tables.{size-snoc, table-snoc, three-more}
+use Rattle.levels.proofs.OneMore.{size-snoc, table-snoc, three-more}
 
 module _ (len : List ℕ → ℕ) (cells : List ℕ) (w h : ℕ) where
   -- no cell yet

@@ -27,7 +27,7 @@ use Rattle.tree_view.proofs.Limits.{width-ge, columns-le, rows-le, d-le, cy-le,
 use Rattle.tree_view.proofs.Nodes.{longest-at-le, lines-at-le}
 use Rattle.tree_view.proofs.Ruled.{view-columns, view-rows, columns-ruled, rows-ruled, column-offset-at, column-width-at, columns-end, cx-at, row-offset-at, rows-end, cy-at}
 use Rattle.picture_same.specs.Given.{Given}
-use Rattle.picture_same.proofs.Tables.{length-table, depth-table, plan-table}
+use Rattle.levels.proofs.Tables.{length-table, depth-table, plan-table}
 use Rattle.picture_same.proofs.Known.{limits}
 
 module _ {len : List ℕ → ℕ} {marks : Marks} {cells : List ℕ} {w h nodes : ℕ} {rows table middle lines most : List ℕ} (v : Given len marks cells w h rows table nodes middle lines most) where

@@ -45,7 +45,7 @@ second Answer.Standin = 0
 second Answer.Sheet = 0
 second (Answer.Plain node) = node
 
--- the numbers of the picture reader's answers
+-- the numbers of the readers' answers (14: request (viii))
 abbrev pub readerNumber : Reading → ℕ
 readerNumber (Reading.Done nodes) = 0
 readerNumber Reading.Utf8 = 6
@@ -53,6 +53,7 @@ readerNumber Reading.Large = 7
 readerNumber (Reading.Canvas needed) = 8
 readerNumber (Reading.Room needed) = 9
 readerNumber Reading.Undrawn = 10
+readerNumber Reading.NoGraph = 14
 
 -- and their second numbers
 abbrev pub readerSecond : Reading → ℕ
@@ -62,6 +63,7 @@ readerSecond Reading.Large = 0
 readerSecond (Reading.Canvas needed) = needed
 readerSecond (Reading.Room needed) = needed
 readerSecond Reading.Undrawn = 0
+readerSecond Reading.NoGraph = 0
 
 -- 1 RAGGED: table length not a multiple of 3
 unfoldable pub ragged : List ℕ → Bool

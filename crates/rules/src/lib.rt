@@ -62,7 +62,7 @@ pub struct Drawing {
     pub untitled: usize,
 }
 
-// What the reader of pictures answers.
+// What the readers of pictures and of fenced graphs answer.
 pub enum Reading {
     Done(usize),
     Utf8,
@@ -70,4 +70,5 @@ pub enum Reading {
     Large,
     Canvas(usize),
     Room(usize),
+    NoGraph,
 }

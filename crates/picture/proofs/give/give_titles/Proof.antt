@@ -8,9 +8,9 @@ use lib.Seq.{sets, length-sets}
 use Rattle.rules.specs.Base.{each}
 use Rattle.picture_sight.specs.Seen.{seen}
 use Rattle.picture.specs.Standing.{titleBy}
-use Rattle.picture.proofs.Titles.{parts-none, parts-more, parts-fit}
+use Rattle.delivery.proofs.Titles.{parts-none, parts-more, parts-fit}
 use Rattle.picture.proofs.Giving.{entry-in, stands-at, block-at}
-use Rattle.picture.proofs.Stored.{stored-all, stored-part}
+use Rattle.delivery.proofs.Stored.{stored-all, stored-part}
 use borrow.Author.Needs.{needs}
 use Rattle.picture.proofs.give.give_titles.Statement.{statement}
 use Rattle.picture.proofs.give.give_titles.Tie as tie
