@@ -19,10 +19,11 @@ TEXT, GRAPH, FENCED, READ, FILE = 0, 1, 2, 3, 4
 ROWS = 5  # (iii)
 READ_FENCED = 7  # (viii)
 WHY, FITS, SHEETS = 6, 8, 9  # (vi), (ix), (x)
+JSON_OUT, JSON_IN = 10, 11  # (xi)
 DRAWN = TEXT, FILE, ROWS
 # a look: the crate's, and what is added to it: (iv) a line's length is its code points, (xiii) plain marks, (i) a stand-in is given
 BYTES, FITTED, PLAIN, GIVEN = 0, 1, 2, 4
-LOOKS = {TEXT: tuple(range(8)), GRAPH: (BYTES, GIVEN), FENCED: (BYTES, GIVEN), READ: tuple(range(4)), FILE: (BYTES,), WHY: (BYTES,), FITS: (BYTES,), READ_FENCED: (BYTES,)}  # that a kind of request takes
+LOOKS = {TEXT: tuple(range(8)), GRAPH: (BYTES, GIVEN), FENCED: (BYTES, GIVEN), READ: tuple(range(4)), FILE: (BYTES,), WHY: (BYTES,), FITS: (BYTES,), READ_FENCED: (BYTES,), JSON_OUT: (BYTES,), JSON_IN: (BYTES,)}  # that a kind of request takes
 LOOKS[ROWS] = LOOKS[SHEETS] = LOOKS[TEXT]
 STANDIN, NOCELL, NOT_PLAIN = 12, 13, 17  # (i) a stand-in that may not stand in; (vi) no cell stands there; (xiii) a title that does not keep to the bytes of the plain profile
 NOGRAPH = 14  # (viii) no plan is written as this graph

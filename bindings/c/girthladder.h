@@ -1,5 +1,5 @@
 /* Girthladder for C and C++: query plans as trees of boxes, on a canvas, row by row or on sheets, and as graphs, such trees and fenced graphs
- * read back, why a step is drawn where it is, and whether a drawing fits the screen.
+ * read back, why a step is drawn where it is, whether a drawing fits the screen, and plans as JSON, out and in.
  *
  * A plan is a table and the bytes of its titles. The table has three uint32_t for each node, nodes depth first:
  *
@@ -55,7 +55,7 @@ enum girthladder_number {
     GIRTHLADDER_NONE = 3,   /* no node, drawing and girthladder_fits: 0 */
     GIRTHLADDER_DEPTH = 4,  /* the depth rule is broken, or a depth is over 31: the first such node, counted from 0 */
     GIRTHLADDER_TITLE = 5,  /* a title reaches past the title bytes, or has over 1,024: the first such node */
-    GIRTHLADDER_UTF8 = 6,   /* a title is not valid UTF-8: the first such node; reading: the picture or the graph is not, 0 */
+    GIRTHLADDER_UTF8 = 6,   /* a title is not valid UTF-8: the first such node; reading: the picture, the graph or the JSON text is not, 0 */
     GIRTHLADDER_STANDIN = 12, /* the stand-in is empty, has over 1,024 bytes or is not valid UTF-8, or is not plain in a plain drawing: 0 */
     GIRTHLADDER_NOT_PLAIN = 17, /* GIRTHLADDER_PLAIN, and a title has a byte that is not 20 to 7E or '\n', drawing only: the first such node */
     GIRTHLADDER_LARGE = 7,  /* over 1,048,576 cells, drawing and reading: 0 */
@@ -63,7 +63,8 @@ enum girthladder_number {
     GIRTHLADDER_ROOM = 9,   /* the output is too short: bytes needed; reading: see there */
     GIRTHLADDER_UNDRAWN = 10, /* no ordinary plan is drawn as this picture, reading only: 0 */
     GIRTHLADDER_NOCELL = 13, /* no cell stands there, girthladder_why only: 0 */
-    GIRTHLADDER_NOGRAPH = 14 /* no plan is written as this graph, girthladder_read_fenced only: 0 */
+    GIRTHLADDER_NOGRAPH = 14, /* no plan is written as this graph, girthladder_read_fenced only: 0 */
+    GIRTHLADDER_NOJSON = 16  /* the text is no JSON of a plan, girthladder_read_json only: the offset where it goes wrong, see there */
 };
 
 /* How a drawing looks, for the functions that end in `_as`: a sum of these switches. 0 is the crate's look, that of girthladder_text.
@@ -330,6 +331,34 @@ void girthladder_fits(const uint32_t *table, size_t table_length,
                       const uint8_t *titles, size_t titles_length,
                       uint32_t columns, uint32_t rows,
                       struct girthladder_fitting *answer);
+
+/* Writes the plan as JSON (RFC 8259): an array of roots, each an object {"title":"..","children":[..]}, with no white space. Quote and
+ * backslash are escaped by a backslash, bytes below 20 as \u00 with two lower-case digits; all else is unchanged.
+ *   DONE    out[0 .. second) holds the text, with no '\n' at its end. What lies beyond is unchanged.
+ *   else    out is unchanged.
+ * The numbers are a graph's: RAGGED, MANY, DEPTH, TITLE, UTF8, ROOM. How much to lend: ask with out of length 0; ROOM tells the bytes. */
+void girthladder_write_json(const uint32_t *table, size_t table_length,
+                            const uint8_t *titles, size_t titles_length,
+                            uint8_t *out, size_t out_length,
+                            struct girthladder_answer *answer);
+
+/* Reads a JSON text of that meaning, at most 32 levels deep: with white space, members in either order, and every escape. A repeated, missing
+ * or other member, and a lone surrogate, are turned down. What girthladder_write_json wrote is read as the same depths and titles.
+ *   DONE    table[0 .. 3 * second) holds the plan's nodes, `second` of them; titles holds their titles one after another from 0 on.
+ *           What lies beyond is unchanged.
+ *   UTF8    the text is not valid UTF-8: 0.
+ *   NOJSON  it is no such text: the offset of the first byte that ends a beginning which no such text has (so every beginning before it
+ *           can be completed, and with that byte none can), or the text's length if it only ended early. A 33rd level is NOJSON at its
+ *           opening brace.
+ *   MANY    over 256 nodes: 0.
+ *   TITLE   a title has over 1,024 bytes: the first such node.
+ *   ROOM    the table is too short: entries needed; else the titles are: bytes needed.
+ * Looked for in this order; no other number, and only DONE changes table and titles. width, height and untitled are 0.
+ * How much to lend: 768 entries of table and as many title bytes as the text has are always room enough. */
+void girthladder_read_json(const uint8_t *text, size_t text_length,
+                           uint32_t *table, size_t table_length,
+                           uint8_t *titles, size_t titles_length,
+                           struct girthladder_answer *answer);
 
 #ifdef __cplusplus
 }

@@ -9,6 +9,10 @@ pub use rows::{rows, rows_with};
 
 pub use crate::graph_reader::lent::read_fenced;
 
+mod json;
+
+pub use json::{read_json, write_json};
+
 // girthladder.h. An empty slice's pointer is never read through.
 extern "C" {
     fn girthladder_text_with(

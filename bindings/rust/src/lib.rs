@@ -34,10 +34,12 @@
 //!
 //! [`draw_rows`] draws the same with one row of cells in place of a canvas. [`read_fenced`] reads back what [`fenced`] writes.
 //! [`why`] says of a step in the drawing why it is drawn where it is, and [`fits`] whether a drawing fits the screen.
-//! [`sheets`] cuts a drawing into sheets, for printing on several pages.
+//! [`sheets`] cuts a drawing into sheets, for printing on several pages. [`to_json`] and [`from_json`] exchange plans with whoever holds
+//! trees as JSON.
 
 mod fits;
 mod graph_reader;
+mod json;
 mod look;
 mod plan;
 mod reason;
@@ -48,6 +50,7 @@ pub mod lent;
 
 pub use fits::Fits;
 pub use graph_reader::read_fenced;
+pub use json::{from_json, to_json};
 pub use look::Look;
 pub use plan::Plan;
 pub use reason::Reason;

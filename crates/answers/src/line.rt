@@ -42,6 +42,13 @@ pub fn print_five(five: [u64; 5]) {
     console::print(b"0 0 0\n");
 }
 
+// The numbers of an import, which has no size.
+pub fn print_import(five: [u64; 5]) {
+    print_number(five[0], 32);
+    print_number(five[1], 32);
+    console::print(b"0 0 0 ");
+}
+
 // The sums of the lent memory, which end the line.
 pub fn print_sums(a: u64, b: u64, c: u64) {
     print_number(a, 32);

@@ -1,5 +1,6 @@
 // Answers many requests in one run, for tests: the numbers of each answer, and a checksum of all lent memory.
 mod fenced;
+mod json_text;
 mod lent;
 mod line;
 mod question;
@@ -43,6 +44,9 @@ fn known(kind: u32, look: u32) -> bool {
         return look == 0;
     }
     if question::known(kind) {
+        return look == 0;
+    }
+    if json_text::known(kind) {
         return look == 0;
     }
     if kind < 3 {
@@ -377,7 +381,8 @@ fn reading(
     )
 }
 
-// Answers a request whose head was read: kind 3 has a picture to read, kind 7 a fenced graph, kinds 6 and 8 are questions of a plan. (op = kind + 256 × look.)
+// Answers a request whose head was read: kind 3 has a picture to read, kind 7 a fenced graph, kinds 6 and 8 are questions of a plan,
+// 10 and 11 have to do with JSON. (op = kind + 256 × look.)
 fn asked(
     head: &[u8],
     input: &mut [u8],
@@ -399,6 +404,9 @@ fn asked(
     }
     if question::known(kind) {
         return question::request(kind, head, input, table);
+    }
+    if json_text::known(kind) {
+        return json_text::request(kind, head, input, table, out);
     }
     request(kind, look, head, input, table, cells, out)
 }

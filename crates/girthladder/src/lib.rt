@@ -1,5 +1,6 @@
-// The door for C and Rust: drawing, sheets, graphs and reading on lent memory, and questions of a plan, the answer as five numbers.
+// The door for C and Rust: drawing, sheets, graphs and reading on lent memory, questions of a plan, and JSON, the answer as five numbers.
 mod graph_reader;
+mod json_text;
 mod question;
 mod row;
 mod run_book;
@@ -13,6 +14,8 @@ ghost use Rattle.rules.specs.Answers.{drawing, canvasAfter, outAfter, graphAnsw
 ghost use Rattle.rules.specs.Switches.{givenOf, lookIn};
 ghost use Rattle.girthladder.specs.Five.{drawingFive, graphFive, readingFive, ReadFive};
 pub use graph_reader::girthladder_read_fenced;
+pub use json_text::girthladder_read_json;
+pub use json_text::girthladder_write_json;
 pub use question::girthladder_fits;
 pub use question::girthladder_why;
 pub use row::girthladder_rows;

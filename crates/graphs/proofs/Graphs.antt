@@ -1,12 +1,10 @@
--- What a graph answers and leaves in the lent output. The walk over no output counts; the walk over the output, which has room for all, lays the
--- graph at its start.
-use mathlib.Core.Path.{_≡_, refl, ap, sym, _∙_}
-use mathlib.Core.List.{List, [], _∷_, _++_}
+-- What a graph answers and leaves in the lent output (whether there is room for it: crates/put/proofs/Rooms.antt).
+use mathlib.Core.Path.{_≡_, ap, sym, _∙_}
+use mathlib.Core.List.{List, []}
 use mathlib.Core.Bool.{Bool, true, false}
-use Prim.Native.Nat.{ℕ, _+_, _/_, _≤_, _<_}
+use Prim.Native.Nat.{ℕ, _/_}
 use native.Mathlib.Omega.{arith}
 use lib.ListN.{length, getD}
-use borrow.Author.Tests.{lt-ltb, le-ltb}
 use Rattle.rules.specs.Base.{pick, laid}
 use Rattle.rules.specs.Plan.{count, planOf}
 use Rattle.rules.specs.Levels.{columnAt}
@@ -21,33 +19,7 @@ use Rattle.levels.specs.Filled.{filled}
 use Rattle.levels.proofs.Accepted.{depth-small}
 use Rattle.levels.proofs.Refused.{graph-all}
 use Rattle.levels.proofs.Filled.{filled-at}
-use Rattle.put.specs.Put.{Put}
 use Rattle.graphs.specs.Entries.{Ready}
-use Rattle.put.proofs.Puts.{put-length, put-laid}
-
--- nothing is written where there is no room at all
-empty : (l : List ℕ) → length l ≡ 0 → l ≡ []
-empty [] e = refl
-empty (x ∷ l) e = absurd (omega arith)
-
-module _ {G m : List ℕ} {need : ℕ} (p : Put G 0 [] m need) (l : List ℕ) where
-  counted : m ++ l ≡ l
-  counted = rw (empty m (put-length p))
-
-  -- no room for all: the bytes needed, and memory as it was
-  pub room-short : length l < need → (Answer.Room need ≡ inRoom (length l) (length G)) × (m ++ l ≡ pick (done (Answer.Room need)) (laid G l) l)
-  unfolding inRoom pick done
-  room-short h =
-      let e : need ≡ length G = omega (arith, p .place) in
-      (rw (lt-ltb (length l) (length G) (omega arith)) (ap Answer.Room e), counted)
-
-  -- room for all
-  pub room-enough : {w : List ℕ} {r : ℕ} → need ≤ length l → Put G 0 (m ++ l) w r
-      → (Answer.Done need ≡ inRoom (length l) (length G)) × (w ≡ pick (done (Answer.Done need)) (laid G l) l)
-  unfolding inRoom pick done
-  room-enough {w} {r} h q =
-      let e : need ≡ length G = omega (arith, p .place) in
-      (rw (le-ltb (length l) (length G) (omega arith)) (ap Answer.Done e), put-laid G l w r (rw counted at q) (omega arith))
 
 -- the columns of an accepted table
 pub ready : {T B : List ℕ} → Accepted T B → (C D : List ℕ) → length D ≡ 256 → C ≡ filled (columnAt (planOf T [])) 0 (length T / 3) D → Ready T C
