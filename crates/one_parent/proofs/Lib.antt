@@ -1,0 +1,15 @@
+pub mod Examples
+pub mod Nodes
+pub mod Parents
+pub mod Boxes
+pub mod Owned
+pub mod Climb
+pub mod Foot
+pub mod Bend
+pub mod Reach
+pub mod Leads
+pub mod Only
+pub mod OneParent
+pub mod Sheets
+pub mod Passed
+pub mod Drawn
