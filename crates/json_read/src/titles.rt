@@ -9,7 +9,7 @@ ghost use Rattle.put.specs.Put.{Put};
 ghost use Rattle.json_read.specs.Known.{Stands, Sized, Titled, HasTitles, HasShort};
 
 // How many bytes the string at `at` means.
-pub fn size(text: &[u8], at: usize) -> usize
+pub(crate) fn size(text: &[u8], at: usize) -> usize
     requires { ⌜ Stands (now text) at ⌝ }
     ensures { λ r. ⌜ Sized (now (text .entry)) at r ⌝ }
 {
@@ -18,7 +18,7 @@ pub fn size(text: &[u8], at: usize) -> usize
 }
 
 // The first of n nodes whose title is longer than 1,024 bytes, n if there is none.
-pub fn long_title(text: &[u8], n: usize, starts: &[usize; 256]) -> usize
+pub(crate) fn long_title(text: &[u8], n: usize, starts: &[usize; 256]) -> usize
     requires { ⌜ HasTitles (now text) (now starts) n ⌝ }
     ensures { λ r. ⌜ ((p : List Node) → Titled (now (text .entry)) (now (starts .entry)) n p → r ≡ first (longTitle p) n) ⌝ }
 {
@@ -33,7 +33,7 @@ pub fn long_title(text: &[u8], n: usize, starts: &[usize; 256]) -> usize
 }
 
 // Puts the titles of n nodes one after another.
-pub fn put_titles(text: &[u8], n: usize, starts: &[usize; 256], titles: &mut [u8]) -> usize
+pub(crate) fn put_titles(text: &[u8], n: usize, starts: &[usize; 256], titles: &mut [u8]) -> usize
     requires { ⌜ HasShort (now text) (now starts) n ⌝ }
     ensures { λ r. ⌜ ((p : List Node) → Titled (now (text .entry)) (now (starts .entry)) n p → Put (titlesOf p) 0 (now (titles .entry)) (now (titles .exit)) r) ⌝ }
 {

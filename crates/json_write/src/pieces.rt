@@ -70,7 +70,7 @@ fn escapes(out: &mut [u8], at: usize, s: &[u8]) -> usize
 }
 
 // Puts the beginning of an object, up to its children.
-pub fn opened(out: &mut [u8], at: usize, title: &[u8]) -> usize
+pub(crate) fn opened(out: &mut [u8], at: usize, title: &[u8]) -> usize
     requires { ⌜ at + length (openedOf (now title)) < 2 ^ 64 ⌝ }
     ensures { λ r. ⌜ Put (openedOf (now (title .entry))) at (now (out .entry)) (now (out .exit)) r ⌝ }
 {
@@ -80,7 +80,7 @@ pub fn opened(out: &mut [u8], at: usize, title: &[u8]) -> usize
 }
 
 // Puts the ends of n arrays of children and their objects.
-pub fn closes(out: &mut [u8], at: usize, n: u32) -> usize
+pub(crate) fn closes(out: &mut [u8], at: usize, n: u32) -> usize
     requires { ⌜ at + length (closesOf n) < 2 ^ 64 ⌝ }
     ensures { λ r. ⌜ Put (closesOf n) at (now (out .entry)) (now (out .exit)) r ⌝ }
 {
@@ -94,7 +94,7 @@ pub fn closes(out: &mut [u8], at: usize, n: u32) -> usize
 }
 
 // Puts what stands before an object of depth d where `open` objects are open.
-pub fn linked(out: &mut [u8], at: usize, open: u32, d: u32) -> usize
+pub(crate) fn linked(out: &mut [u8], at: usize, open: u32, d: u32) -> usize
     requires { ⌜ (d ≤ «open») × (at + length (linkedOf «open» d) < 2 ^ 64) ⌝ }
     ensures { λ r. ⌜ Put (linkedOf «open» d) at (now (out .entry)) (now (out .exit)) r ⌝ }
 {
