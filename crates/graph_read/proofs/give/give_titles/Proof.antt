@@ -56,9 +56,10 @@ loop-less c = search needs
 
 loop-again : tie.Need-loop-again Inv-loop μ-loop
 loop-again c =
-    let s = c .before .before .before .before .before .before .before .before .before in
+    let at-loop = c .before .before .before .before .before .before in
+    let s = at-loop .before .before .before in
     let a = s .args in
-    let l = c .before .before .before .before .before .before .loop in
+    let l = at-loop .loop in
     let p = planBy (a .text .now) (a .seen .now) (a .order .now) (a .nodes) in
     let t : l .t < a .nodes = search needs in
     let r = c .before .before .unescape in

@@ -35,11 +35,12 @@ byte-requires c κs = search needs
 
 returns : tie.Need-returns
 returns c =
-    let s = c .before .before .before .before .before .before .before .before .before .before .before in
+    let at-bytes = c .before .before .before .before .before in
+    let s = at-bytes .before .before .before .before .before .before in
     let a = s .args in
     let P = a .text .now in
     let p = planBy P (a .seen .now) (a .order .now) (a .nodes) in
-    let e = places P p _ _ _ _ (c .before .before .before .before .before .bytes .ensures) (c .before .before .before .entries .ensures) (c .before .before .no-entry .ensures) (c .before .byte .ensures) in
+    let e = places P p _ _ _ _ (at-bytes .bytes .ensures) (c .before .before .before .entries .ensures) (c .before .before .no-entry .ensures) (c .before .byte .ensures) in
     sym (past-end P p (omega (arith, e)))
 
 shared-slice-read-if2 : tie.Need-shared-slice-read-if2
@@ -50,21 +51,23 @@ add-result c = search needs
 
 returns-2 : tie.Need-returns-2
 returns-2 c =
-    let s = c .before .before .before .before .before .before .before .before .before .before .before .before .before in
+    let at-bytes = c .before .before .before .before .before .before .before in
+    let s = at-bytes .before .before .before .before .before .before in
     let a = s .args in
     let P = a .text .now in
     let p = planBy P (a .seen .now) (a .order .now) (a .nodes) in
-    let e = places P p _ _ _ _ (c .before .before .before .before .before .before .before .bytes .ensures) (c .before .before .before .before .before .entries .ensures) (c .before .before .before .before .no-entry .ensures) (c .before .before .before .byte .ensures) in
+    let e = places P p _ _ _ _ (at-bytes .bytes .ensures) (c .before .before .before .before .before .entries .ensures) (c .before .before .before .before .no-entry .ensures) (c .before .before .before .byte .ensures) in
     sym (brace P p (omega (arith, e)) (ap (λ k. getD P k 0) (sym e) ∙ c .if2 .taken)
     ∙ ap (λ k. eqb (k + 1) (length P)) (sym e))
 
 returns-3 : tie.Need-returns-3
 returns-3 c =
-    let s = c .before .before .before .before .before .before .before .before .before .before .before .before .before in
+    let at-bytes = c .before .before .before .before .before .before .before in
+    let s = at-bytes .before .before .before .before .before .before in
     let a = s .args in
     let P = a .text .now in
     let p = planBy P (a .seen .now) (a .order .now) (a .nodes) in
-    let e = places P p _ _ _ _ (c .before .before .before .before .before .before .before .bytes .ensures) (c .before .before .before .before .before .entries .ensures) (c .before .before .before .before .no-entry .ensures) (c .before .before .before .byte .ensures) in
+    let e = places P p _ _ _ _ (at-bytes .bytes .ensures) (c .before .before .before .before .before .entries .ensures) (c .before .before .before .before .no-entry .ensures) (c .before .before .before .byte .ensures) in
     sym (no-brace P p (λ q. c .if2 .left (ap (λ k. getD P k 0) e ∙ q)))
 
 pub same-spec : {M : Type 1} → statement M

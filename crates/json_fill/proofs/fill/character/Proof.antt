@@ -70,7 +70,8 @@ same-length-2 c = search needs
 
 returns-2 : tie.Need-returns-2
 returns-2 c =
-    let start = c .before .before .before .before .before .before .before .before .before .before .before in
+    let back = c .before .before .before .before .before .before .before .before in
+    let start = back .before .before .before in
     let after-if1 = c .before .before .before .before .before .before .before in
     let after-if2 = c .before .before .before .before .before in
     let after-code = c .before .before .before .before in
@@ -89,7 +90,8 @@ byte-requires-2 c κs =
 
 add-t20 : tie.Need-add-t20
 add-t20 c =
-    let start = c .before .before .before .before .before .before .before .before .before .before .before in
+    let back = c .before .before .before .before .before .before .before .before in
+    let start = back .before .before .before in
     let after-if1 = c .before .before .before .before .before .before .before in
     record { fits = omega (arith, next-there (start .args .text .now) (start .args .i) (start .args .to) (start .pre) (after-if1 .if1 .left)) }
 
@@ -98,7 +100,8 @@ same-length-3 c = search needs
 
 returns-3 : tie.Need-returns-3
 returns-3 c =
-    let start = c .before .before .before .before .before .before .before .before .before .before .before in
+    let back = c .before .before .before .before .before .before .before .before in
+    let start = back .before .before .before in
     let after-if1 = c .before .before .before .before .before .before .before in
     let after-if2 = c .before .before .before .before .before in
     let after-meant = c .before .before .before .before in

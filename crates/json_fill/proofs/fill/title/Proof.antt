@@ -55,7 +55,8 @@ loop-less c = omega (arith, c .before .before .character .ensures .further)
 
 loop-again : tie.Need-loop-again Inv-loop μ-loop
 loop-again c =
-    let start = c .before .before .before .before .before .before .before .before .before .before .before in
+    let back = c .before .before .before .before .before .before .before .before in
+    let start = back .before .before .before in
     let turn = c .before .before .before .before .before .before .before in
     let after-character = c .before .before in
     filling-step (start .args .text .now) (start .args .at) (start .args .start) (start .args .out .now) (turn .loop .out) (turn .loop .i) (turn .loop .to) (turn .loop .inv) _ _ _ (after-character .character .ensures)

@@ -37,9 +37,10 @@ loop-less c = search needs
 
 loop-again : tie.Need-loop-again Inv-loop μ-loop
 loop-again c =
-    let s = c .before .before .before .before .before .before .before .before .before in
+    let at-loop = c .before .before .before .before .before .before in
+    let s = at-loop .before .before .before in
     let a = s .args in
-    let l = c .before .before .before .before .before .before .loop in
+    let l = at-loop .loop in
     put-next (a .text .now) (a .starts .now) (a .n) (a .titles .now) (l .titles) (l .to) (l .k) (l .inv) (s .pre) (search needs) _ _ (c .before .before .title .ensures)
 
 same-length : tie.Need-same-length Inv-loop μ-loop

@@ -27,16 +27,19 @@ digit-requires-2 c κs = search needs
 
 byte-requires-2 : tie.Need-byte-requires-2
 byte-requires-2 c κs =
-    let s = c .before .before .before .before .before .before .before .before .before .before .before .before .before in omega (arith, s .pre .0, ap length (as-code (s .args .b) (s .pre .1)), c .before .before .before .before .before .before .before .before .before .bytes .ensures .place, c .before .before .before .before .byte .ensures .place)
+    let at-byte = c .before .before .before .before in
+    let at-bytes = at-byte .before .before .before .before .before in
+    let s = at-bytes .before .before .before .before in omega (arith, s .pre .0, ap length (as-code (s .args .b) (s .pre .1)), at-bytes .bytes .ensures .place, at-byte .byte .ensures .place)
 
 same-length : tie.Need-same-length
 same-length c = search needs
 
 returns : tie.Need-returns
 returns c =
-    let s = c .before .before .before .before .before .before .before .before .before .before .before .before .before .before .before .before in
-    rw (as-code (s .args .b) (s .pre .1), ← c .before .before .before .before .before .before .before .before .digit .ensures, ← c .before .before .before .digit2 .ensures)
-    (then (then (c .before .before .before .before .before .before .before .before .before .before .before .before .bytes .ensures) (c .before .before .before .before .before .before .before .byte .ensures)) (c .before .before .byte2 .ensures))
+    let at-digit = c .before .before .before .before .before .before .before .before in
+    let s = at-digit .before .before .before .before .before .before .before .before in
+    rw (as-code (s .args .b) (s .pre .1), ← at-digit .digit .ensures, ← c .before .before .before .digit2 .ensures)
+    (then (then (at-digit .before .before .before .before .bytes .ensures) (c .before .before .before .before .before .before .before .byte .ensures)) (c .before .before .byte2 .ensures))
 
 pub coded-spec : {M : Type 1} → statement M
 coded-spec =

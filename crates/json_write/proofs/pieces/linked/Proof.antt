@@ -28,8 +28,9 @@ same-length c = search needs
 
 returns-2 : tie.Need-returns-2
 returns-2 c =
-    let s = c .before .before .before .before .before .before .before .before .before .before in
-    rw (linked-parts (s .args .«open») (s .args .d) (below (s .pre .0) (search needs))) (then (c .before .before .before .before .before .before .closes .ensures) (c .before .before .byte .ensures))
+    let at-closes = c .before .before .before .before .before .before in
+    let s = at-closes .before .before .before .before in
+    rw (linked-parts (s .args .«open») (s .args .d) (below (s .pre .0) (search needs))) (then (at-closes .closes .ensures) (c .before .before .byte .ensures))
 
 pub linked-spec : {M : Type 1} → statement M
 linked-spec =

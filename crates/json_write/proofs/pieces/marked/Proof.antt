@@ -20,7 +20,8 @@ same-length c = search needs
 
 returns : tie.Need-returns
 returns c =
-    let s = c .before .before .before .before .before .before .before .before .before in rw (s .pre .1) (then (c .before .before .before .before .before .before .byte .ensures) (c .before .before .byte2 .ensures))
+    let at-byte = c .before .before .before .before .before .before in
+    let s = at-byte .before .before .before in rw (s .pre .1) (then (at-byte .byte .ensures) (c .before .before .byte2 .ensures))
 
 pub marked-spec : {M : Type 1} → statement M
 marked-spec = tie.close (tie.spec byte-requires byte-requires-2 same-length returns)

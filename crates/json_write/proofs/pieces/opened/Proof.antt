@@ -22,15 +22,18 @@ slice-aggregate-bytes-2 c = search needs
 
 bytes-requires-2 : tie.Need-bytes-requires-2
 bytes-requires-2 c κs =
-    let s = c .before .before .before .before .before .before .before .before .before .before .before .before .before in omega (arith, s .pre, opened-length (s .args .title .now), c .before .before .before .before .before .before .before .before .bytes .ensures .place, c .before .before .before .before .escapes .ensures .place)
+    let at-bytes = c .before .before .before .before .before .before .before .before in
+    let s = at-bytes .before .before .before .before .before in omega (arith, s .pre, opened-length (s .args .title .now), at-bytes .bytes .ensures .place, c .before .before .before .before .escapes .ensures .place)
 
 same-length : tie.Need-same-length
 same-length c = search needs
 
 returns : tie.Need-returns
 returns c =
-    let s = c .before .before .before .before .before .before .before .before .before .before .before .before .before .before .before .before in
-    rw (opened-parts (s .args .title .now)) (then (c .before .before .before .before .before .before .before .before .before .before .before .bytes .ensures) (then (c .before .before .before .before .before .before .before .escapes .ensures) (c .before .before .bytes2 .ensures)))
+    let at-escapes = c .before .before .before .before .before .before .before in
+    let at-bytes = at-escapes .before .before .before .before in
+    let s = at-bytes .before .before .before .before .before in
+    rw (opened-parts (s .args .title .now)) (then (at-bytes .bytes .ensures) (then (at-escapes .escapes .ensures) (c .before .before .bytes2 .ensures)))
 
 pub opened-spec : {M : Type 1} → statement M
 opened-spec =

@@ -28,7 +28,8 @@ same-length-2 c = search needs
 
 returns-2 : tie.Need-returns-2
 returns-2 c =
-    room-enough (c .before .before .before .before .before .before .before .whole .ensures) (c .before .before .before .before .before .before .before .before .before .before .before .before .args .out .now) (search needs) (c .before .before .whole2 .ensures)
+    let at-whole = c .before .before .before .before .before .before .before in
+    room-enough (at-whole .whole .ensures) (at-whole .before .before .before .before .before .args .out .now) (search needs) (c .before .before .whole2 .ensures)
 
 pub fill-spec : {M : Type 1} → statement M
 fill-spec =

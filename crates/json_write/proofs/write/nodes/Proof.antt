@@ -53,17 +53,19 @@ linked-requires c κs =
 
 title-requires : tie.Need-title-requires Inv-loop μ-loop
 title-requires c κs =
-    let s = c .before .before .before .before .before .before .before .before .before .before .before in
-    let k = c .before .before .before .before .before .before .before .loop .k in
+    let at-loop = c .before .before .before .before .before .before .before in
+    let s = at-loop .before .before .before .before in
+    let k = at-loop .loop .k in
     let h : k < count (s .args .table .now) = omega (arith, s .pre .1) in
     (node-fits (s .pre .0) k h, title-fits (s .pre .0) k h)
 
 opened-requires : tie.Need-opened-requires Inv-loop μ-loop
 unfolding depthIn
 opened-requires c κs =
-    let s = c .before .before .before .before .before .before .before .before .before .before .before .before in
+    let at-loop = c .before .before .before .before .before .before .before .before in
+    let s = at-loop .before .before .before .before in
     let a = s .args in
-    let l = c .before .before .before .before .before .before .before .before .loop in
+    let l = at-loop .loop in
     let p = planOf (a .table .now) (a .titles .now) in
     let o = l .«open» in
     let d = depthIn (a .table .now) (l .k) in
@@ -74,8 +76,9 @@ opened-requires c κs =
 add-open : tie.Need-add-open Inv-loop μ-loop
 unfolding depthIn
 add-open c =
-    let s = c .before .before .before .before .before .before .before .before .before .before .before .before .before .before .before in
-    let k = c .before .before .before .before .before .before .before .before .before .before .before .loop .k in
+    let back = c .before .before .before .before .before .before .before .before in
+    let s = back .before .before .before .before .before .before .before in
+    let k = back .before .before .before .loop .k in
     record { fits = omega (arith, depth-small (s .pre .0) k (omega (arith, s .pre .1))) }
 
 add-k : tie.Need-add-k Inv-loop μ-loop
@@ -87,9 +90,10 @@ loop-less c = search needs
 loop-again : tie.Need-loop-again Inv-loop μ-loop
 unfolding depthIn
 loop-again c =
-    let s = c .before .before .before .before .before .before .before .before .before .before .before .before .before .before .before in
+    let at-linked = c .before .before .before .before .before .before .before in
+    let s = at-linked .before .before .before .before .before .before .before .before in
     let a = s .args in
-    let l = c .before .before .before .before .before .before .before .before .before .before .before .loop in
+    let l = at-linked .before .before .before .before .loop in
     let p = planOf (a .table .now) (a .titles .now) in
     let o = l .«open» in
     let d = depthIn (a .table .now) (l .k) in
@@ -98,7 +102,7 @@ loop-again c =
       search needs,
       omega (arith, depth-small (s .pre .0) (l .k) (omega (arith, s .pre .1))),
       λ h. depth-later (s .pre .0) (l .k) (omega (arith, s .pre .1)),
-      step (opened t) more (step (linked o d) (opened t ++ more) (l .inv .3) (flat-turn (s .pre .0) o (l .k) (omega (arith, s .pre .1))) (c .before .before .before .before .before .before .before .linked .ensures)) refl (rw (c .before .before .before .title .ensures) at (c .before .before .opened .ensures)),
+      step (opened t) more (step (linked o d) (opened t ++ more) (l .inv .3) (flat-turn (s .pre .0) o (l .k) (omega (arith, s .pre .1))) (at-linked .linked .ensures)) refl (rw (c .before .before .before .title .ensures) at (c .before .before .opened .ensures)),
     )
 
 closes-requires : tie.Need-closes-requires Inv-loop μ-loop
@@ -115,9 +119,10 @@ closes-requires c κs =
 
 byte-requires : tie.Need-byte-requires Inv-loop μ-loop
 byte-requires c κs =
-    let s = c .before .before .before .before .before .before .before .before .before .before in
+    let at-loop = c .before .before .before .before .before .before in
+    let s = at-loop .before .before .before .before in
     let a = s .args in
-    let l = c .before .before .before .before .before .before .loop in
+    let l = at-loop .loop in
     let p = planOf (a .table .now) (a .titles .now) in
     let o = l .«open» in
     let d = depthIn (a .table .now) (l .k) in
@@ -127,27 +132,29 @@ byte-requires c κs =
 
 same-length : tie.Need-same-length Inv-loop μ-loop
 same-length c =
-    let s = c .before .before .before .before .before .before .before .before .before .before .before .before .before in
+    let at-closes = c .before .before .before .before .before .before in
+    let s = at-closes .before .before .before .before .before .before .before in
     let a = s .args in
-    let l = c .before .before .before .before .before .before .before .before .before .loop in
+    let l = at-closes .before .before .before .loop in
     let p = planOf (a .table .now) (a .titles .now) in
     let o = l .«open» in
     let d = depthIn (a .table .now) (l .k) in
     let t = titleIn (a .table .now) (a .titles .now) (l .k) in
     let more = flat (d + 1) (drop (l .k + 1) p) in
-    put-length (end (step (0x5D ∷ []) [] (step (closes o) ((0x5D ∷ []) ++ []) (l .inv .3) (flat-end (s .pre .0) o (l .k) (omega (arith, s .pre .1))) (c .before .before .before .before .before .before .closes .ensures)) refl (c .before .before .byte .ensures)) refl)
+    put-length (end (step (0x5D ∷ []) [] (step (closes o) ((0x5D ∷ []) ++ []) (l .inv .3) (flat-end (s .pre .0) o (l .k) (omega (arith, s .pre .1))) (at-closes .closes .ensures)) refl (c .before .before .byte .ensures)) refl)
 
 returns : tie.Need-returns Inv-loop μ-loop
 returns c =
-    let s = c .before .before .before .before .before .before .before .before .before .before .before .before .before in
+    let at-closes = c .before .before .before .before .before .before in
+    let s = at-closes .before .before .before .before .before .before .before in
     let a = s .args in
-    let l = c .before .before .before .before .before .before .before .before .before .loop in
+    let l = at-closes .before .before .before .loop in
     let p = planOf (a .table .now) (a .titles .now) in
     let o = l .«open» in
     let d = depthIn (a .table .now) (l .k) in
     let t = titleIn (a .table .now) (a .titles .now) (l .k) in
     let more = flat (d + 1) (drop (l .k + 1) p) in
-    end (step (0x5D ∷ []) [] (step (closes o) ((0x5D ∷ []) ++ []) (l .inv .3) (flat-end (s .pre .0) o (l .k) (omega (arith, s .pre .1))) (c .before .before .before .before .before .before .closes .ensures)) refl (c .before .before .byte .ensures)) refl
+    end (step (0x5D ∷ []) [] (step (closes o) ((0x5D ∷ []) ++ []) (l .inv .3) (flat-end (s .pre .0) o (l .k) (omega (arith, s .pre .1))) (at-closes .closes .ensures)) refl (c .before .before .byte .ensures)) refl
 
 pub nodes-spec : {M : Type 1} → statement M
 nodes-spec =

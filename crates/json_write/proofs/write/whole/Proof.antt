@@ -21,7 +21,8 @@ same-length c = search needs
 
 returns : tie.Need-returns
 returns c =
-    let s = c .before .before .before .before .before .before .before .before .before .before .before in rw (json-nodes (s .pre)) (then (c .before .before .before .before .before .before .byte .ensures) (c .before .before .nodes .ensures))
+    let at-byte = c .before .before .before .before .before .before in
+    let s = at-byte .before .before .before .before .before in rw (json-nodes (s .pre)) (then (at-byte .byte .ensures) (c .before .before .nodes .ensures))
 
 pub whole-spec : {M : Type 1} → statement M
 whole-spec = tie.close (tie.spec byte-requires nodes-requires same-length returns)

@@ -24,8 +24,9 @@ same-length c = search needs
 
 returns : tie.Need-returns
 returns c =
-    let s = c .before .before .before .before .before .before .before .before .before .before .args in
-    accepted-answer (s .table .now) (s .titles .now) (s .out .now) (said (c .before .before .before .before .before .before .first-refusal .ensures) (c .before .before .before .before .before .done .ensures) (search needs)) (c .before .before .fill .ensures)
+    let at-first-refusal = c .before .before .before .before .before .before in
+    let s = at-first-refusal .before .before .before .before .args in
+    accepted-answer (s .table .now) (s .titles .now) (s .out .now) (said (at-first-refusal .first-refusal .ensures) (c .before .before .before .before .before .done .ensures) (search needs)) (c .before .before .fill .ensures)
 
 returns-2 : tie.Need-returns-2
 returns-2 c =

@@ -67,40 +67,45 @@ half-up-requires c κs = search needs
 
 sub-x : tie.Need-sub-x Inv-loop μ-loop
 sub-x c =
-    let s = c .before .before .before .before .before .before .before .before .before .before .before in
+    let at-loop = c .before .before .before .before .before .before .before in
+    let s = at-loop .before .before .before .before in
     let a = s .args in
-    let l = c .before .before .before .before .before .before .before .loop in
+    let l = at-loop .loop in
     omega (arith, c .half-up .ensures, stands-at (a .nodes) (a .found .now) (a .cy .now) (a .middle .now) (a .lines .now) (a .longest .now) (s .pre .1 .1 .0) (l .k) (search needs) (c .before .before .before .before .wide .result) (c .before .before .before .before .wide .ensures) .left)
 
 mul-y : tie.Need-mul-y Inv-loop μ-loop
 mul-y c =
-    let s = c .before .before .before .before .before .before .before .before .before .before .before in
+    let at-loop = c .before .before .before .before .before .before .before in
+    let s = at-loop .before .before .before .before in
     let a = s .args in
-    let l = c .before .before .before .before .before .before .before .loop in
+    let l = at-loop .loop in
     let i = stands-at (a .nodes) (a .found .now) (a .cy .now) (a .middle .now) (a .lines .now) (a .longest .now) (s .pre .1 .1 .0) (l .k) (search needs) (c .before .before .before .before .wide .result) (c .before .before .before .before .wide .ensures) .in-rows in
     search needs
 
 element-copy-out-y : tie.Need-element-copy-out-y Inv-loop μ-loop
 element-copy-out-y c =
-    let s = c .before .before .before .before .before .before .before .before .before .before .before in
+    let at-loop = c .before .before .before .before .before .before .before in
+    let s = at-loop .before .before .before .before in
     let a = s .args in
-    let l = c .before .before .before .before .before .before .before .loop in
+    let l = at-loop .loop in
     let i = stands-at (a .nodes) (a .found .now) (a .cy .now) (a .middle .now) (a .lines .now) (a .longest .now) (s .pre .1 .1 .0) (l .k) (search needs) (c .before .before .before .before .wide .result) (c .before .before .before .before .wide .ensures) .in-rows in
     search needs
 
 sub-y : tie.Need-sub-y Inv-loop μ-loop
 sub-y c =
-    let s = c .before .before .before .before .before .before .before .before .before .before .before .before in
+    let at-loop = c .before .before .before .before .before .before .before .before in
+    let s = at-loop .before .before .before .before in
     let a = s .args in
-    let l = c .before .before .before .before .before .before .before .before .loop in
+    let l = at-loop .loop in
     stands-at (a .nodes) (a .found .now) (a .cy .now) (a .middle .now) (a .lines .now) (a .longest .now) (s .pre .1 .1 .0) (l .k) (search needs) (c .before .before .before .before .before .wide .result) (c .before .before .before .before .before .wide .ensures) .above
 
 write-block-requires : tie.Need-write-block-requires Inv-loop μ-loop
 write-block-requires c κs =
-    let s = c .before .before .before .before .before .before .before .before .before .before .before .before .before in
+    let at-wide = c .before .before .before .before .before .before in
+    let s = at-wide .before .before .before .before .before .before .before in
     let a = s .args in
-    let l = c .before .before .before .before .before .before .before .before .before .loop in
-    let i = c .before .before .before .before .before .before .wide in
+    let l = at-wide .before .before .before .loop in
+    let i = at-wide .wide in
     let st = stands-at (a .nodes) (a .found .now) (a .cy .now) (a .middle .now) (a .lines .now) (a .longest .now) (s .pre .1 .1 .0) (l .k) (search needs) (i .result) (i .ensures) in
     let u = c .before .before .half-up in
     let is = block-at (a .nodes) (a .found .now) (a .cy .now) (a .middle .now) (a .lines .now) (a .longest .now) (s .pre .1 .1 .0) (l .k) (search needs) (i .result) (i .ensures) (seen (a .cells .now) (a .width) (a .height)) (u .result) (u .ensures) in
@@ -114,16 +119,18 @@ loop-less c = search needs
 
 loop-again : tie.Need-loop-again Inv-loop μ-loop
 loop-again c =
-    let s = c .before .before .before .before .before .before .before .before .before .before .before .before .before .before .before .before in
+    let at-half-up = c .before .before .before .before .before in
+    let at-loop = at-half-up .before .before .before .before .before .before .before in
+    let s = at-loop .before .before .before .before in
     let a = s .args in
-    let l = c .before .before .before .before .before .before .before .before .before .before .before .before .loop in
-    let i = c .before .before .before .before .before .before .before .before .before .wide in
-    let u = c .before .before .before .before .before .half-up in
+    let l = at-loop .loop in
+    let i = at-half-up .before .before .before .before .wide in
+    let u = at-half-up .half-up in
     let r = c .before .before .write-block in
     let f : ℕ → List ℕ = titleBy (seen (a .cells .now) (a .width) (a .height)) (a .found .now) (a .cy .now) (a .middle .now) (a .lines .now) (a .longest .now) in
-    let is = block-at (a .nodes) (a .found .now) (a .cy .now) (a .middle .now) (a .lines .now) (a .longest .now) (s .pre .1 .1 .0) (l .k) (omega (arith, c .before .before .before .before .before .before .before .before .before .before .before .loop-test)) (i .result) (i .ensures) (seen (a .cells .now) (a .width) (a .height)) (u .result) (u .ensures) in
+    let is = block-at (a .nodes) (a .found .now) (a .cy .now) (a .middle .now) (a .lines .now) (a .longest .now) (s .pre .1 .1 .0) (l .k) (omega (arith, at-half-up .before .before .before .before .before .before .loop-test)) (i .result) (i .ensures) (seen (a .cells .now) (a .width) (a .height)) (u .result) (u .ensures) in
     let put : r .last .1 .1 .1 .1 .1 .1 .1 .0 ≡ sets (l .out) (l .at) (f (l .k)) = rw is (r .ensures .1) in (
-      omega (arith, c .before .before .before .before .before .before .before .before .before .before .before .loop-test),
+      omega (arith, at-half-up .before .before .before .before .before .before .loop-test),
       ap length put ∙ length-sets (l .out) (l .at) (f (l .k)) ∙ l .inv .1,
       omega (arith, r .ensures .0, ap length is, ap length (parts-more f (l .k)), length-append (each f (l .k)) (f (l .k)), l .inv .2),
       stored-part f (a .out .now) (l .out) (r .last .1 .1 .1 .1 .1 .1 .1 .0) (l .at) (l .k) (l .inv .2) (l .inv .3) put,

@@ -60,7 +60,8 @@ element-copy-out-spot-row c = search needs
 spot-row-requires : tie.Need-spot-row-requires
 spot-row-requires c κs =
     let t = c .before .before in
-    let s = t .before .before .before .before .before .before .before .before .before in
+    let at-spot = t .before in
+    let s = at-spot .before .before .before .before .before .before .before .before in
     let a = s .pre .1 (λ z. omega arith) in
     let i : s .args .k - 1 < count (s .args .table .now) = omega (arith, a .node-in) in
     let g = t .shown-title .ensures in
@@ -83,11 +84,12 @@ returns-2 : tie.Need-returns-2
 returns-2 c =
     let r = c .before .before in
     let t = r .before .before .before in
-    let s = t .before .before .before .before .before .before .before .before .before in
+    let at-spot = t .before in
+    let s = at-spot .before .before .before .before .before .before .before .before in
     let a = s .pre .1 (λ z. omega arith) in
     let i : s .args .k - 1 < count (s .args .table .now) = omega (arith, a .node-in) in (
       (λ e. absurd (omega arith)),
-      (λ f. cell-done (marksIn (s .args .style .marks)) _ _ _ _ (s .args .y) (t .before .spot-of .ensures) (t .shown-title .ensures ∙ sym (title-shown (a .showable) (s .args .k - 1) i)) (s .args .j) _ (s .args .row .now) (s .args .from .now) _ (r .spot-row .ensures .0) (r .spot-row .ensures .1)),
+      (λ f. cell-done (marksIn (s .args .style .marks)) _ _ _ _ (s .args .y) (at-spot .spot-of .ensures) (t .shown-title .ensures ∙ sym (title-shown (a .showable) (s .args .k - 1) i)) (s .args .j) _ (s .args .row .now) (s .args .from .now) _ (r .spot-row .ensures .0) (r .spot-row .ensures .1)),
     )
 
 pub one-cell-spec : {M : Type 1} → statement M

@@ -58,7 +58,8 @@ returns-4 : tie.Need-returns-4
 returns-4 c =
     let w = c .before .before in
     let t = w .before .before .before in
-    let s = t .before .before .before .before .before .before .before .before .before .before in
+    let tests = t .before .before in
+    let s = tests .before .before .before .before .before .before .before .before in
     bottom-of-box _ _ _ _ _ _ _ (w .before .bottom-edge .ensures) (omega (arith, s .pre .0 .high, t .if4 .taken)) (t .if4 .taken) (w .border2 .ensures)
 
 foot-wire-requires : tie.Need-foot-wire-requires

@@ -13,7 +13,8 @@ plain-row-requires c κs = side-asks (c .before .before .before .before .before 
 
 side-requires : tie.Need-side-requires
 side-requires c κs =
-    let s = c .before .before .before .before .before .before .before .before .before in
+    let back = c .before .before .before .before .before .before .before .before in
+    let s = back .before in
     side-asks (s .pre .0 .0 .band)
 
 cells-row-requires : tie.Need-cells-row-requires

@@ -19,7 +19,8 @@ row-cells-requires c κs =
 
 onward-requires : tie.Need-onward-requires
 onward-requires c κs =
-    let s = c .before .before .before .before .before .before .before .before .before in
+    let back = c .before .before .before .before .before .before .before .before in
+    let s = back .before in
     let m = made (s .pre .0 .0 .known) in
     (m .columns-some, m .columns-few, s .pre .1 .1 .0 .2)
 

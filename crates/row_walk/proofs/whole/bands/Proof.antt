@@ -41,7 +41,8 @@ add-i : tie.Need-add-i Inv-loop μ-loop
 add-i c =
     let a = c .before .before .before .before in
     let t = a .before .before .before .before .before .before .before in
-    let s = t .before .before .before .before .before .before .before .before .before in
+    let i = t .before in
+    let s = i .before .before .before .before .before .before .before .before in
     record { fits = omega (arith, t .loop-test .taken, made (s .pre .0 .0 .known) .rows-few) }
 
 loop-less : tie.Need-loop-less Inv-loop μ-loop

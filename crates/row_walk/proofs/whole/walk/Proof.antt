@@ -34,7 +34,8 @@ returns : tie.Need-returns
 returns c =
     let b = c .before .before .before .before in
     let h = b .before .before .before .before .before .before .before in
-    let s = h .before .before .before .before .before .before .before .before .before in
+    let i = h .before in
+    let s = i .before .before .before .before .before .before .before .before in
     (whole-text _ _ _ _ _ _ _ _ _ _ (high (s .pre .0 .known) .0) (h .heads .ensures) (b .bands .ensures .0), b .bands .ensures .1)
 
 pub walk-spec : {M : Type 1} → statement M

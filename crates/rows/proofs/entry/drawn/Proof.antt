@@ -13,7 +13,8 @@ columns-requires c κs =
 
 measures-requires : tie.Need-measures-requires
 measures-requires c κs =
-    let s = c .before .before .before .before .before .before .before .before .before in
+    let back = c .before .before .before .before .before .before .before .before in
+    let s = back .before in
     unfold count in (s .pre .0, refl)
 
 measured-requires : tie.Need-measured-requires

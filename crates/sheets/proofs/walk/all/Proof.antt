@@ -43,9 +43,10 @@ add-top c = search needs
 
 add-r : tie.Need-add-r Inv-loop μ-loop
 add-r c =
-    let s = c .before .before .before .before .before .before .before .before .before .before in
+    let at-loop = c .before .before .before .before .before .before .before in
+    let s = at-loop .before .before .before in
     let a = s .args in
-    let l = c .before .before .before .before .before .before .before .loop in
+    let l = at-loop .loop in
     let g = s .pre in
     record { fits = omega (arith, goes (a .cut .height) (a .cut .down) (g .sound .some-down) (l .r) (l .top) (l .inv .0) (search needs), parts-most (a .cut .height) (a .cut .down)) }
 
@@ -54,9 +55,10 @@ loop-less c = search needs
 
 loop-again : tie.Need-loop-again Inv-loop μ-loop
 loop-again c =
-    let s = c .before .before .before .before .before .before .before .before .before .before in
+    let at-loop = c .before .before .before .before .before .before .before in
+    let s = at-loop .before .before .before in
     let a = s .args in
-    let l = c .before .before .before .before .before .before .before .loop in
+    let l = at-loop .loop in
     let g = s .pre in
     (rw (c .before .before .before .before .part .ensures) (on (a .cut .height) (a .cut .down) (g .sound .some-down) (l .r) (l .top) (l .inv .0) (search needs)), next (bandIn (a .cells .now) (a .cut)) (l .r) (l .inv .1) (c .before .before .band .ensures))
 

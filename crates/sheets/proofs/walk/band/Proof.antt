@@ -37,9 +37,10 @@ heading-requires c κs =
 
 rows-requires : tie.Need-rows-requires Inv-loop μ-loop
 rows-requires c κs =
-    let s = c .before .before .before .before .before .before .before .before .before .before .before in
+    let at-loop = c .before .before .before .before .before .before .before .before in
+    let s = at-loop .before .before .before in
     let a = s .args in
-    let l = c .before .before .before .before .before .before .before .before .loop in
+    let l = at-loop .loop in
     let g = s .pre .0 .0 in
     let k = here (a .cut .width) (a .cut .across) (g .sound .some-across) (l .c) (l .left) (l .inv .0) (search needs) in
     let w = c .before .before .before .before .before .part .ensures ∙ size-is (a .cut .width) (a .cut .across) (g .sound .some-across) (l .c) (l .left) (l .inv .0) (search needs) in
@@ -57,12 +58,13 @@ add-left c = search needs
 
 add-c : tie.Need-add-c Inv-loop μ-loop
 add-c c =
-    let s = c .before .before .before .before .before .before .before .before .before .before .before .before .before .before in
+    let at-part = c .before .before .before .before .before .before .before .before in
+    let s = at-part .before .before .before .before .before .before in
     let a = s .args in
-    let l = c .before .before .before .before .before .before .before .before .before .before .before .loop in
+    let l = at-part .before .before .before .loop in
     let g = s .pre .0 .0 in
     let k = here (a .cut .width) (a .cut .across) (g .sound .some-across) (l .c) (l .left) (l .inv .0) (search needs) in
-    let w = c .before .before .before .before .before .before .before .before .part .ensures ∙ size-is (a .cut .width) (a .cut .across) (g .sound .some-across) (l .c) (l .left) (l .inv .0) (search needs) in
+    let w = at-part .part .ensures ∙ size-is (a .cut .width) (a .cut .across) (g .sound .some-across) (l .c) (l .left) (l .inv .0) (search needs) in
     record { fits = omega (arith, goes (a .cut .width) (a .cut .across) (g .sound .some-across) (l .c) (l .left) (l .inv .0) (search needs), parts-most (a .cut .width) (a .cut .across)) }
 
 loop-less : tie.Need-loop-less Inv-loop μ-loop
@@ -70,14 +72,15 @@ loop-less c = search needs
 
 loop-again : tie.Need-loop-again Inv-loop μ-loop
 loop-again c =
-    let s = c .before .before .before .before .before .before .before .before .before .before .before .before .before .before in
+    let at-part = c .before .before .before .before .before .before .before .before in
+    let s = at-part .before .before .before .before .before .before in
     let a = s .args in
-    let l = c .before .before .before .before .before .before .before .before .before .before .before .loop in
+    let l = at-part .before .before .before .loop in
     let g = s .pre .0 .0 in
     let k = here (a .cut .width) (a .cut .across) (g .sound .some-across) (l .c) (l .left) (l .inv .0) (search needs) in
-    let w = c .before .before .before .before .before .before .before .before .part .ensures ∙ size-is (a .cut .width) (a .cut .across) (g .sound .some-across) (l .c) (l .left) (l .inv .0) (search needs) in
+    let w = at-part .part .ensures ∙ size-is (a .cut .width) (a .cut .across) (g .sound .some-across) (l .c) (l .left) (l .inv .0) (search needs) in
     let o = on (a .cut .width) (a .cut .across) (g .sound .some-across) (l .c) (l .left) (l .inv .0) (search needs) in (
-      rw (c .before .before .before .before .before .before .before .before .part .ensures) o,
+      rw (at-part .part .ensures) o,
       sheet-next (a .cells .now) (a .cut) (a .r) (l .c) (l .left) _ (a .top) (a .high) k w (s .pre .0 .2) (s .pre .0 .3) (l .inv .1) (c .before .before .before .before .before .before .heading .ensures) (c .before .before .rows .ensures),
     )
 
