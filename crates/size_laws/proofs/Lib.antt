@@ -1,0 +1,4 @@
+pub mod Sums
+pub mod Shapes
+pub mod Column
+pub mod Field
