@@ -96,6 +96,11 @@ module _ (s : Spot) where
         more = t .more + fieldMore e top end a b own;
       }
 
+-- where row y ends by m columns from j on; 0 where nothing stands in them
+unfoldable pub endsFrom : (spot : ℕ → Spot) (to : ℕ → ℕ) (j m y : ℕ) → ℕ
+endsFrom spot to j zero y = 0
+endsFrom spot to j (suc m) y = orElse (endsFrom spot to (suc j) m y) (rowEnd (spot j) (to j) y)
+
 -- nothing yet; a row that all boxes of the band cover is its middle
 abbrev pub untaken : ℕ → Tally
 untaken middle = record { lo = middle; hi = middle; ends = 0; bend = 0; drop = 0; more = 0 }
