@@ -242,3 +242,16 @@ module _ {len : List ℕ → ℕ} {marks : Marks} (ok : Lawful len marks) {e : �
                         (text-ends (marks .│) e X R a b (omega arith) (q .from-left) (q .to-right) (λ x. own x y) (unseen (ok .│-seen)))
                   ]
             ]
+
+  -- ---- a cell or none; the letters come to o
+  pub field-more : (cell : Bool) → (cell ≡ true → Amid Y B bend top end) → Shown cell → (o : ℕ)
+      → (cell ≡ true → sum (λ y. sum (λ x. extra (own x y)) (X + 2) (R - 1)) (Y + 1) B ≡ o)
+      → sum F top end ≡ fieldMore (spot cell child on up l bend X Y R B) e top end a b o
+  unfolding fieldMore pick
+  field-more true v is o h = rw (h refl) at (cell-more (v refl) is)
+  field-more false v is o h = none-more is
+
+  pub field-ends : (cell : Bool) → (cell ≡ true → Amid Y B bend top end) → Shown cell → (y : ℕ) → top ≤ y → y < end
+      → Ends (λ x. f x y) a b (rowEnd (spot cell child on up l bend X Y R B) b y)
+  field-ends true v is y h k = cell-ends (v refl) is y h k
+  field-ends false v is y h k = none-ends is y h k

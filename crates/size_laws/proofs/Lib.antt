@@ -4,3 +4,6 @@ pub mod Column
 pub mod Field
 pub mod Covers
 pub mod Bands
+pub mod Rows
+pub mod Titles
+pub mod Drawn

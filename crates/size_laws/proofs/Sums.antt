@@ -31,6 +31,12 @@ unfolding total
 total-swap f m zero = sym (total-const (λ j. total (λ k. f j k) 0) 0 m (λ k h. refl) ∙ omega arith)
 total-swap f m (suc n) = rw (total-swap f m n) (sym (total-add (λ j. total (λ k. f j k) n) (λ j. f j n) m))
 
+-- the first one apart
+pub total-head : (f : ℕ → ℕ) (n : ℕ) → total f (suc n) ≡ f 0 + total (λ k. f (suc k)) n
+unfolding total
+total-head f zero = omega arith
+total-head f (suc n) = omega (arith, total-head f n)
+
 pub sum-same : (f g : ℕ → ℕ) (a b : ℕ) → ((x : ℕ) → a ≤ x → x < b → f x ≡ g x) → sum f a b ≡ sum g a b
 unfolding sum
 sum-same f g a b e = total-same (λ k. f (a + k)) (λ k. g (a + k)) (b - a) (λ k h. e (a + k) (omega arith) (omega arith))

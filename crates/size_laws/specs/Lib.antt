@@ -1,3 +1,4 @@
 pub mod Sums
 pub mod Even
 pub mod Columns
+pub mod Size
