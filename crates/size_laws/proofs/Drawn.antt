@@ -89,10 +89,10 @@ module _ {len : List ℕ → ℕ} {marks : Marks} {p : List Node} {w h : ℕ} {T
       abbrev s : Spot
       s = spotIn r L G cx j
 
-      starts : a ≡ columnFrom len (view p) j
+      pub starts : a ≡ columnFrom len (view p) j
       starts = q .numbers .x-is j hj ∙ sym (column-part len marks (view p) j hj .from-is)
 
-      stops : b ≡ columnFrom len (view p) (j + 1)
+      pub stops : b ≡ columnFrom len (view p) (j + 1)
       stops = column-stop len marks (view p) (q .numbers) j hj
 
       spot-mark : (x y : ℕ) → a ≤ x → x < b → r .top ≤ y → y < r .end → markAt len marks (view p) x y ≡ spotMark marks s (letter x y) x y
@@ -124,7 +124,7 @@ module _ {len : List ℕ → ℕ} {marks : Marks} {p : List Node} {w h : ℕ} {T
           let st = m .stands is in
           record { below = st .below; lined = omega (arith, st .lined); bends = st .bends; ends = st .ends }
 
-      fit : (low : ℕ) → low ≡ min (r .bend) (r .end) → Fit s (r .top) low (r .middle) (r .bend)
+      pub fit : (low : ℕ) → low ≡ min (r .bend) (r .end) → Fit s (r .top) low (r .middle) (r .bend)
       fit low z =
           let m = aptly .room in
           record {

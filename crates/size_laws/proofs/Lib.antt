@@ -7,3 +7,5 @@ pub mod Bands
 pub mod Rows
 pub mod Titles
 pub mod Drawn
+pub mod Outside
+pub mod Whole

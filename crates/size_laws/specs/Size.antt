@@ -3,10 +3,12 @@ use mathlib.Core.List.{List}
 use Prim.Native.Nat.{ℕ, _+_, _-_}
 use lib.ListN.{length, getD}
 use Rattle.rules.specs.Base.{pick}
+use Rattle.rules.specs.Lines.{digits}
 use Rattle.rules.specs.Plan.{Node, nodeAt}
-use Rattle.rules.specs.Levels.{view}
+use Rattle.rules.specs.Levels.{View, view}
 use Rattle.rules.specs.Measures.{canvasWidth}
 use Rattle.rules.specs.Drawing.{Marks, picture, rowText}
+use Rattle.marks.specs.Whole.{indexAt}
 use Rattle.marks.specs.Numbers.{endAt}
 use Rattle.utf8.specs.Begun.{begun}
 use Rattle.row_strips.specs.Row.{Row, some}
@@ -27,6 +29,10 @@ ownIn p here j = pick (some here j) (tails (nodeAt p (getD here j 0 - 1) .title)
 abbrev pub tallyIn : (p : List Node) (r : Row) (lines longest cx xs : List ℕ) (ncols width e j m : ℕ) → Tally
 tallyIn p r lines longest cx xs ncols width e j m =
     tallied (spotIn r lines longest cx) (λ k. getD xs k 0) (endAt xs ncols width) (ownIn p (r .here)) e (r .top) (r .end) (r .middle) j m
+
+-- where the row of the column indices ends: after the last one
+unfoldable pub headEnd : (List ℕ → ℕ) → View → ℕ
+headEnd len v = indexAt len v (v .columns - 1) + length (digits (v .columns - 1))
 
 -- the bytes of the rows from y on, before z, of a plan's drawing
 unfoldable pub rowsBytes : (List ℕ → ℕ) → Marks → List Node → (y z : ℕ) → ℕ
