@@ -42,7 +42,7 @@ use Rattle.row_strips.proofs.Spots.{cell-mem, node-there, spotted, apt}
 use Rattle.size_laws.specs.Sums.{sum, extra}
 use Rattle.size_laws.specs.Even.{Even}
 use Rattle.size_laws.specs.Columns.{Ends, orElse, rowEnd, fieldMore, endsFrom, bandSize}
-use Rattle.size_laws.specs.Size.{tails, ownIn, tallyIn, rowsBytes}
+use Rattle.size_laws.specs.Size.{tails, ownOf, ownIn, tallyIn, rowsBytes}
 use Rattle.size_laws.proofs.Sums.{total-same, sum-same, sum-join, sum-add, sum-const, sum-total, sum-from, sum-parts}
 use Rattle.size_laws.proofs.Field.{Beside, Amid, field-more, field-ends}
 use Rattle.size_laws.proofs.Bands.{Fit, mores, band-ends}
@@ -139,7 +139,7 @@ module _ {len : List ℕ → ℕ} {marks : Marks} {p : List Node} {w h : ℕ} {T
       filled is z = false≢true (sym (rw (eq-eqb (getD (r .here) j 0) 0 z)) ∙ is)
 
       letters : some (r .here) j ≡ true → sum (λ y. sum (λ x. extra (letter x y)) (s .left + 2) (s .right - 1)) (s .top + 1) (s .bottom) ≡ ownIn p (r .here) j
-      unfolding ownIn pick
+      unfolding ownOf pick
       letters is =
           let z = filled is in
           let k = getD (r .here) j 0 - 1 in

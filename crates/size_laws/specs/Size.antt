@@ -1,6 +1,8 @@
 -- The numbers of a band as the arrays of a plan have them, and the length of a run of rows. Words for laws and contracts, no rule.
 use mathlib.Core.List.{List}
+use mathlib.Core.Bool.{not}
 use Prim.Native.Nat.{ℕ, _+_, _-_}
+use lib.Dec.{eqb}
 use lib.ListN.{length, getD}
 use Rattle.rules.specs.Base.{pick}
 use Rattle.rules.specs.Lines.{digits}
@@ -11,7 +13,7 @@ use Rattle.rules.specs.Drawing.{Marks, picture, rowText}
 use Rattle.marks.specs.Whole.{indexAt}
 use Rattle.marks.specs.Numbers.{endAt}
 use Rattle.utf8.specs.Begun.{begun}
-use Rattle.row_strips.specs.Row.{Row, some}
+use Rattle.row_strips.specs.Row.{Row}
 use Rattle.row_strips.specs.Strip.{spotIn}
 use Rattle.size_laws.specs.declared.tally.Tally.{Tally}
 use Rattle.size_laws.specs.Sums.{sum}
@@ -21,9 +23,13 @@ use Rattle.size_laws.specs.Columns.{tallied}
 abbrev pub tails : List ℕ → ℕ
 tails l = length l - begun l
 
--- those of the cell in column j of a row; 0 where there is none
-unfoldable pub ownIn : List Node → (here : List ℕ) (j : ℕ) → ℕ
-ownIn p here j = pick (some here j) (tails (nodeAt p (getD here j 0 - 1) .title)) 0
+-- those of the title of node k - 1; 0 where k is 0
+unfoldable pub ownOf : List Node → (k : ℕ) → ℕ
+ownOf p k = pick (not (eqb k 0)) (tails (nodeAt p (k - 1) .title)) 0
+
+-- those of the cell in column j of a row
+abbrev pub ownIn : List Node → (here : List ℕ) (j : ℕ) → ℕ
+ownIn p here j = ownOf p (getD here j 0)
 
 -- m columns of a row from j on
 abbrev pub tallyIn : (p : List Node) (r : Row) (lines longest cx xs : List ℕ) (ncols width e j m : ℕ) → Tally

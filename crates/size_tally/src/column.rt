@@ -50,8 +50,8 @@ fn below_ends(s: Spot, to: u32, hi: u32) -> usize
     requires { ⌜ (s .bottom + 1 ≤ to) × (to ≤ 1048576) × (hi ≤ 1048576) × (s .line < 1048576) × (s .right < 1048576) ⌝ }
     ensures { λ r. ⌜ (r ≡ (max (s .bottom + 1) hi - hi) * (s .right + 1) + (max to hi - max (s .bottom + 1) hi) * footEnd (plain s)) × (r ≤ 562949953421312) ⌝ }
 {
-    let q = number::most(s.bottom + 1, hi);
-    let p = number::most(to, hi);
+    let q = text::greater(s.bottom + 1, hi);
+    let p = text::greater(to, hi);
     number::product(q - hi, s.right + 1) + number::product(p - q, foot_end(s))
 }
 
@@ -77,7 +77,7 @@ fn reached(t: Tally, s: Spot, top: u32, low: u32) -> Tally
     let below = below_ends(s, to, t.hi);
     Tally {
         lo: number::least(from, t.lo),
-        hi: number::most(to, t.hi),
+        hi: text::greater(to, t.hi),
         ends: t.ends + above + below,
         bend: t.bend,
         drop: t.drop,

@@ -1,6 +1,6 @@
 // Numbers that are chosen, and products of small ones.
 ghost use mathlib.Core.Path.{_≡_};
-ghost use Prim.Native.Nat.{_*_, _≤_, min, max};
+ghost use Prim.Native.Nat.{_*_, _≤_, min};
 ghost use Rattle.rules.specs.Base.{pick};
 ghost use Rattle.size_laws.specs.Columns.{orElse};
 
@@ -12,16 +12,6 @@ pub fn least(a: u32, b: u32) -> u32
         return a;
     }
     b
-}
-
-// The greater of two.
-pub(crate) fn most(a: u32, b: u32) -> u32
-    ensures { λ r. ⌜ r ≡ max a b ⌝ }
-{
-    if a < b {
-        return b;
-    }
-    a
 }
 
 // One or the other, which is no more than it.

@@ -5,14 +5,14 @@ use borrow.Author.Needs.{needs}
 use Rattle.size_tally.proofs.column.below_ends.Statement.{statement}
 use Rattle.size_tally.proofs.column.below_ends.Tie as tie
 
-add-most : tie.Need-add-most
-add-most c = search needs
+add-greater : tie.Need-add-greater
+add-greater c = search needs
 
-most-requires : tie.Need-most-requires
-most-requires c κs = search needs
+greater-requires : tie.Need-greater-requires
+greater-requires c κs = search needs
 
-most-requires-2 : tie.Need-most-requires-2
-most-requires-2 c κs = search needs
+greater-requires-2 : tie.Need-greater-requires-2
+greater-requires-2 c κs = search needs
 
 sub-product : tie.Need-sub-product
 sub-product c = search needs
@@ -36,15 +36,15 @@ add-result : tie.Need-add-result
 add-result c = search needs
 
 returns : tie.Need-returns
-returns c = (rw (c .product2 .ensures .0, c .before .before .product .ensures .0, c .before .foot-end .ensures .0, c .before .before .before .before .before .most .ensures, c .before .before .before .before .most2 .ensures), omega arith)
+returns c = (rw (c .product2 .ensures .0, c .before .before .product .ensures .0, c .before .foot-end .ensures .0, c .before .before .before .before .before .greater .ensures, c .before .before .before .before .greater2 .ensures), omega arith)
 
 pub below-ends-spec : {M : Type 1} → statement M
 below-ends-spec =
     tie.close
     (tie.spec
-    add-most
-    most-requires
-    most-requires-2
+    add-greater
+    greater-requires
+    greater-requires-2
     sub-product
     add-product
     product-requires

@@ -26,8 +26,8 @@ below-ends-requires c κs = search needs
 least-requires : tie.Need-least-requires
 least-requires c κs = search needs
 
-most-requires : tie.Need-most-requires
-most-requires c κs = search needs
+greater-requires : tie.Need-greater-requires
+greater-requires c κs = search needs
 
 add-t12 : tie.Need-add-t12
 add-t12 c = search needs
@@ -46,10 +46,10 @@ returns c =
     let f = t .before .before .before in
     let s = f .before in
     (
-      rw (l .least .ensures, m .most .ensures, a .above-ends .ensures .0, b .below-ends .ensures .0, t .choose .ensures .0, f .reach-from .ensures .0),
+      rw (l .least .ensures, m .greater .ensures, a .above-ends .ensures .0, b .below-ends .ensures .0, t .choose .ensures .0, f .reach-from .ensures .0),
       omega (arith, a .above-ends .ensures .1, b .below-ends .ensures .1),
       least-few _ _ _ 1048576 (l .least .ensures) (s .pre .0 .lo-few),
-      most-few _ _ _ 1048576 (m .most .ensures) (omega (arith, t .choose .ensures .2, s .pre .1 .few)) (s .pre .0 .hi-few),
+      most-few _ _ _ 1048576 (m .greater .ensures) (omega (arith, t .choose .ensures .2, s .pre .1 .few)) (s .pre .0 .hi-few),
     )
 
 pub reached-spec : {M : Type 1} → statement M
@@ -62,7 +62,7 @@ reached-spec =
     above-ends-requires
     below-ends-requires
     least-requires
-    most-requires
+    greater-requires
     add-t12
     add-t13
     returns)

@@ -1,0 +1,3 @@
+pub mod Seen
+pub mod Columns
+pub mod Tallied

@@ -1,0 +1,5 @@
+// The length of a drawing's text, from the measures of its plan: no cell is made or looked at.
+mod across;
+mod letters;
+
+pub use across::tally;
