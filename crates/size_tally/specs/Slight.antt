@@ -23,6 +23,8 @@ pub record Slight (s : Spot) (a b : ℕ) : Type 0 where
 pub record Kept (t : Tally) : Type 0 where
   pub lo-few : t .lo ≤ 1048576
   pub hi-few : t .hi ≤ 1048576
+  pub bend-few : t .bend ≤ 1048576
+  pub drop-few : t .drop ≤ 1048576
   pub ends-few : t .ends ≤ 288230376151711744
   pub more-few : t .more ≤ 288230376151711744
 
@@ -30,5 +32,7 @@ pub record Kept (t : Tally) : Type 0 where
 pub record Grown (t r : Tally) : Type 0 where
   pub lo-few : r .lo ≤ 1048576
   pub hi-few : r .hi ≤ 1048576
+  pub bend-few : r .bend ≤ 1048576
+  pub drop-few : r .drop ≤ 1048576
   pub ends-few : r .ends ≤ t .ends + 1125899906842624
   pub more-few : r .more ≤ t .more + 1125899906842624

@@ -22,7 +22,7 @@ fn foot_end(s: Spot) -> u32
 // Where the bend row ends in a column that ends at b.
 fn bend_end(s: Spot, b: u32) -> u32
     requires { ⌜ (s .line < 1048576) × (s .line + 1 ≤ b) ⌝ }
-    ensures { λ r. ⌜ r ≡ bendEnd (plain s) b ⌝ }
+    ensures { λ r. ⌜ (r ≡ bendEnd (plain s) b) × (r ≤ b) ⌝ }
 {
     number::choose(s.child | s.on, number::choose(s.on, b, s.line + 1), 0)
 }
@@ -30,7 +30,7 @@ fn bend_end(s: Spot, b: u32) -> u32
 // Where a row under it ends.
 fn drop_end(s: Spot) -> u32
     requires { ⌜ s .line < 1048576 ⌝ }
-    ensures { λ r. ⌜ r ≡ dropEnd (plain s) ⌝ }
+    ensures { λ r. ⌜ (r ≡ dropEnd (plain s)) × (r ≤ 1048576) ⌝ }
 {
     number::choose(s.child, s.line + 1, 0)
 }

@@ -27,7 +27,8 @@ pub(crate) fn choose(test: bool, yes: u32, no: u32) -> u32
 
 // The first, or the second where that is 0.
 pub fn or_else(x: u32, y: u32) -> u32
-    ensures { λ r. ⌜ r ≡ orElse x y ⌝ }
+    requires { ⌜ (x ≤ 1048576) × (y ≤ 1048576) ⌝ }
+    ensures { λ r. ⌜ (r ≡ orElse x y) × (r ≤ 1048576) ⌝ }
 {
     if x == 0 {
         return y;

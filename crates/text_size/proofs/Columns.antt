@@ -14,7 +14,9 @@ use Rattle.rules.specs.Utf8.{valid, points}
 use Rattle.rules.specs.Plan.{count, titleIn, nodeAt}
 use Rattle.rules.specs.Standin.{standinOf, shown}
 use Rattle.rules.specs.Levels.{View, view}
-use Rattle.rules.specs.Measures.{cy, rowOffset}
+use Rattle.rules.specs.Measures.{d, cy, rowOffset, columnOffset}
+use Rattle.rules.specs.Drawing.{Marks}
+use Rattle.rules.proofs.Codec.{utf8-size}
 use Rattle.levels.specs.Shown.{planShown, Showable}
 use Rattle.levels.proofs.Shown.{title-shown, shows}
 use Rattle.utf8.specs.Begun.{begun}
@@ -25,8 +27,10 @@ use Rattle.row_strips.specs.Row.{some, seenTo}
 use Rattle.row_strips.specs.Parts.{rowFrom}
 use Rattle.row_strips.specs.Strip.{spotIn, Apt}
 use Rattle.row_strips.proofs.Made.{made}
-use Rattle.row_strips.proofs.Ranges.{column-part, row-part, row-stop}
+use Rattle.row_strips.proofs.Ranges.{column-part, row-part, row-stop, row-bends}
 use Rattle.row_strips.proofs.Spots.{node-there, apt}
+use Rattle.size_laws.specs.Sums.{extra}
+use Rattle.size_laws.specs.Even.{Even}
 use Rattle.size_laws.specs.Size.{ownOf}
 use Rattle.size_tally.specs.Slight.{Boxed, Slight}
 use Rattle.text_size.specs.declared.across.Place.{Place}
@@ -66,14 +70,15 @@ module _ {S T B L G cx xs above here next on : List ℕ} {at : Place} (q : Acros
   abbrev v : View
   v = view (planShown (at .given) S T B)
 
-  pub row-ends : (at .top ≤ at .middle) × (at .middle < at .end) × (at .end ≤ q .height)
+  pub row-ends : (at .top ≤ at .middle) × (at .middle < at .end) × (at .end ≤ q .height) × (at .middle ≤ at .bend)
   row-ends =
       let d = row-part (q .len) (q .marks) v (q .i) row-in in
       let n = q .known .numbers in
       let e : at .end ≡ rowFrom v (q .i + 1) = q .cells .end-is ∙ row-stop (q .len) (q .marks) v n (q .i) row-in in
       let m : at .middle ≡ cy v (q .i) = q .cells .middle-is ∙ n .cy-is (q .i) row-in in
       let t : at .top ≡ rowOffset v (q .i) = q .cells .top-is ∙ n .y-is (q .i) row-in in
-      (omega (arith, d .middle), omega (arith, d .middle, d .to-least, d .high), omega (arith, d .on-canvas, n .high))
+      let b = q .cells .bend-is ∙ row-bends (q .len) (q .marks) v n (q .i) row-in in
+      (omega (arith, d .middle), omega (arith, d .middle, d .to-least, d .high), omega (arith, d .on-canvas, n .high), omega (arith, d .middle))
 
   -- the canvas is not large
   pub sizes : (at .end ≤ 1048576) × (at .width ≤ 1048576)
@@ -83,6 +88,26 @@ module _ {S T B L G cx xs above here next on : List ℕ} {at : Place} (q : Acros
       let w : 0 < at .width = omega (arith, c .on-canvas, c .from-is, c .to-least, c .wide, q .known .numbers .wide) in
       let z = mul-comm (at .width) (q .height) in
       (omega (arith, r .2, times-few (at .width) (q .height) 1048576 w (q .area)), times-few (q .height) (at .width) 1048576 (omega arith) (omega (arith, q .area)))
+
+  -- the first column begins two after the axis
+  pub margin-is : (getD xs 0 0 - 1 ≡ d v + 3) × (1 ≤ getD xs 0 0) × (getD xs 0 0 ≤ at .width)
+  unfolding columnOffset
+  margin-is =
+      let hc : 0 < v .columns = omega (arith, made (q .known) .columns-some, q .known .numbers .columns-are) in
+      let x : getD xs 0 0 ≡ d v + 4 = q .known .numbers .x-is 0 hc in
+      let c = column-part (q .len) (q .marks) v 0 hc in
+      (omega arith, omega arith, omega (arith, c .on-canvas, c .to-least, c .wide, q .known .numbers .wide))
+
+  pub sound : (k : ℕ) → k < length (planShown (at .given) S T B) → valid (nodeAt (planShown (at .given) S T B) k .title) ≡ true
+  sound k b = shows (q .showable) .sound k (omega (arith, shows (q .showable) .nodes))
+
+-- no code point takes more than four bytes
+pub extra-few : (k : ℕ) → extra k ≤ 3
+unfolding extra
+extra-few k = omega (arith, utf8-size k .1)
+
+pub even-few : {marks : Marks} {e : ℕ} → Even marks e → e ≤ 3
+even-few {marks} v = omega (arith, v .─-even, extra-few (marks .─))
 
 -- ---- a column
 module _ {S T B L G cx xs above here next on : List ℕ} {at : Place} (q : Across S T B L G cx xs above here next on at) (first-is over-is : ℕ)
@@ -130,6 +155,6 @@ module _ {S T B L G cx xs above here next on : List ℕ} {at : Place} (q : Acros
           few = omega (arith, m .on-canvas);
         };
         boxed = λ is. (let s = m .stands is in record { below = s .below; lined = omega (arith, s .lined); ends = omega (arith, s .ends, s .bends); few = omega arith });
-        e-few = q .e-few;
+        e-few = even-few (q .even);
         end-few = z .0;
       }

@@ -15,6 +15,7 @@ use Rattle.row_shapes.specs.Plain.{plain}
 use Rattle.row_strips.specs.Row.{Row, RowOf, some, rowBy}
 use Rattle.row_strips.specs.Strip.{sizeOf, spotOf}
 use Rattle.row_strips.specs.Known.{Known}
+use Rattle.size_laws.specs.Even.{Even}
 use Rattle.size_tally.specs.Slight.{Boxed, Slight}
 use Rattle.text_size.specs.declared.across.Place.{Place}
 use Rattle.text_size.specs.declared.across.Joint.{Joint}
@@ -63,4 +64,4 @@ pub record Across (S T B lines longest cx xs above here next on : List ℕ) (at 
   pub row-in : i < nrows
   pub cells : RowOf T nodes column lines (at .ncols) cy ys nrows height i (rowAt above here next on at)
   pub area : at .width * height ≤ 1048576
-  pub e-few : at .e ≤ 3
+  pub even : Even marks (at .e)

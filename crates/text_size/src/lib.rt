@@ -1,5 +1,6 @@
 // The length of a drawing's text, from the measures of its plan: no cell is made or looked at.
 mod across;
+mod down;
 mod letters;
 
 pub use across::tally;

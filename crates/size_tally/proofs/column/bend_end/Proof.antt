@@ -1,4 +1,5 @@
 -- The two choices are the definition's.
+use native.Mathlib.Omega.{arith}
 use mathlib.Core.Path.{refl, ap, sym, _∙_}
 use Rattle.rules.specs.Base.{pick}
 use Rattle.size_laws.specs.Columns.{bendEnd}
@@ -17,7 +18,7 @@ choose-requires-2 c κs = search needs
 
 returns : tie.Need-returns
 unfolding bendEnd
-returns c = c .choose2 .ensures .0 ∙ rw (c .before .choose .ensures .0)
+returns c = (c .choose2 .ensures .0 ∙ rw (c .before .choose .ensures .0), omega (arith, c .choose2 .ensures .2, c .before .choose .ensures .2))
 
 pub bend-end-spec : {M : Type 1} → statement M
 bend-end-spec = tie.close (tie.spec add-choose choose-requires choose-requires-2 returns)

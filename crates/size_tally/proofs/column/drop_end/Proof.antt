@@ -1,4 +1,5 @@
 -- The choice is the definition's.
+use native.Mathlib.Omega.{arith}
 use Rattle.size_laws.specs.Columns.{dropEnd}
 use borrow.Author.Needs.{needs}
 use Rattle.size_tally.proofs.column.drop_end.Statement.{statement}
@@ -12,7 +13,7 @@ choose-requires c κs = search needs
 
 returns : tie.Need-returns
 unfolding dropEnd
-returns c = c .choose .ensures .0
+returns c = (c .choose .ensures .0, omega (arith, c .choose .ensures .2))
 
 pub drop-end-spec : {M : Type 1} → statement M
 drop-end-spec = tie.close (tie.spec add-choose choose-requires returns)

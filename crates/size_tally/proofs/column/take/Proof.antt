@@ -48,10 +48,12 @@ returns c =
     let r = b .before in
     let l = r .before in
     (
-      rw (r .reached-by .ensures .0, o .or-else .ensures, n .bend-end .ensures, c .before .or-else2 .ensures, d .drop-end .ensures, b .box-more .ensures .0, g .gap-more .ensures .0, l .least .ensures),
+      rw (r .reached-by .ensures .0, o .or-else .ensures .0, n .bend-end .ensures .0, c .before .or-else2 .ensures .0, d .drop-end .ensures .0, b .box-more .ensures .0, g .gap-more .ensures .0, l .least .ensures),
       record {
         lo-few = r .reached-by .ensures .2;
         hi-few = r .reached-by .ensures .3;
+        bend-few = o .or-else .ensures .1;
+        drop-few = c .before .or-else2 .ensures .1;
         ends-few = r .reached-by .ensures .1;
         more-few = omega (arith, b .box-more .ensures .1, g .gap-more .ensures .1);
       },

@@ -16,7 +16,7 @@ returns c =
     let q = none-there (eqb (s .args .q .k) 0) (s .args .q .child) (s .args .q .on) (c .if1 .taken) in
     (
       none-taken (plain (spotAt (s .args .at) (s .args .q) (s .args .lines .now) (s .args .longest .now) (s .args .x))) _ _ _ _ _ _ (s .args .t) (q .0) (q .1) (q .2),
-      record { lo-few = s .pre .0 .lo-few; hi-few = s .pre .0 .hi-few; ends-few = omega arith; more-few = omega arith },
+      record { lo-few = s .pre .0 .lo-few; hi-few = s .pre .0 .hi-few; bend-few = s .pre .0 .bend-few; drop-few = s .pre .0 .drop-few; ends-few = omega arith; more-few = omega arith },
     )
 
 own-of-requires : tie.Need-own-of-requires
