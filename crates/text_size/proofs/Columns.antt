@@ -60,7 +60,7 @@ letters {given} {S} {T} {B} a k z h t e =
     }
 
 -- ---- a row
-times-few : (w h n : ℕ) → 0 < w → w * h ≤ n → h ≤ n
+pub times-few : (w h n : ℕ) → 0 < w → w * h ≤ n → h ≤ n
 times-few w h n p e = omega (arith, mul-le-mul-right {m = 1} {n = w} h p)
 
 module _ {S T B L G cx xs above here next on : List ℕ} {at : Place} (q : Across S T B L G cx xs above here next on at) where

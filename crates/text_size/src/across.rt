@@ -118,7 +118,7 @@ fn step<'a>(
 }
 
 // All columns of a row.
-pub fn tally<'a>(
+pub(crate) fn tally<'a>(
     at: Place,
     table: &[u32],
     titles: &'a [u8],

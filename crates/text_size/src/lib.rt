@@ -2,5 +2,7 @@
 mod across;
 mod down;
 mod letters;
+mod whole;
 
-pub use across::tally;
+pub use whole::Numbers;
+

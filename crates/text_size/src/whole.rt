@@ -1,0 +1,93 @@
+// All rows of a drawing.
+ghost use mathlib.Core.Path.{_≡_};
+ghost use Prim.Native.Nat.{_+_, _*_, _-_, _≤_, _<_};
+ghost use lib.ListN.{length, getD};
+ghost use Rattle.rules.specs.Measures as measures;
+ghost use Rattle.rules.specs.Base.{total};
+ghost use Rattle.rules.specs.Levels.{view};
+ghost use Rattle.rules.specs.Drawing.{text};
+ghost use Rattle.rules.specs.Look.{lenOf, marksIn};
+ghost use Rattle.levels.specs.Shown.{planShown};
+ghost use Rattle.row_strips.specs.Parts.{rowFrom};
+ghost use Rattle.size_laws.specs.Sums.{extra};
+ghost use Rattle.size_laws.specs.Size.{headEnd, rowsBytes};
+ghost use Rattle.text_size.specs.Told.{placeAt, Told};
+use crate::across::Place;
+use crate::down;
+use rules::Style;
+
+// How many nodes, columns and rows there are, and the canvas' size.
+pub struct Numbers {
+    pub nodes: usize,
+    pub ncols: u32,
+    pub nrows: u32,
+    pub width: u32,
+    pub height: u32,
+}
+
+// The bytes of a mark after its first.
+fn mark_more(v: u32) -> u32
+    ensures { λ r. ⌜ (r ≡ extra v) × (r ≤ 3) ⌝ }
+{
+    (utf8::encoded(v) - 1) as u32
+}
+
+// The place of row i.
+fn place_of(n: Numbers, cy: &[u32; 32], ys: &[u32; 32], i: u32, e: u32, given: bool) -> Place
+    requires { ⌜ (i < n .nrows) × (n .nrows ≤ 32) × (n .height < 4294967295) ⌝ }
+    requires { ⌜ (i + 1 < n .nrows → 2 ≤ getD (now ys) (i + 1) 0) ⌝ }
+    ensures { λ r. ⌜ r ≡ placeAt n (now (cy .entry)) (now (ys .entry)) i e given ⌝ }
+{
+    let b = row_strips::band_of(cy, ys, n.nrows, i, n.height);
+    Place {
+        top: b.top,
+        end: b.end,
+        bend: b.bend,
+        middle: b.middle,
+        ncols: n.ncols,
+        width: n.width,
+        e,
+        given,
+    }
+}
+
+// All bands and the gaps under them.
+fn bands<'a>(
+    n: Numbers,
+    style: Style,
+    table: &[u32],
+    titles: &'a [u8],
+    standin: &'a [u8],
+    column: &[u32; 256],
+    lines: &[u32; 256],
+    longest: &[u32; 256],
+    cx: &[u32; 256],
+    xs: &[u32; 256],
+    cy: &[u32; 32],
+    ys: &[u32; 32],
+) -> usize
+    requires { ⌜ Told n (lenOf (style .measure)) (marksIn (style .marks)) (style .given) (now standin) (now table) (now titles) (now column) (now lines) (now longest) (now cx) (now xs) (now cy) (now ys) ⌝ }
+    ensures { λ r. ⌜ r ≡ total (λ i. rowsBytes (lenOf (style .measure)) (marksIn (style .marks)) (planShown (style .given) (now (standin .entry)) (now (table .entry)) (now (titles .entry)))
+        (rowFrom (view (planShown (style .given) (now (standin .entry)) (now (table .entry)) (now (titles .entry)))) i) (rowFrom (view (planShown (style .given) (now (standin .entry)) (now (table .entry)) (now (titles .entry)))) (i + 1))) (n .nrows) ⌝ }
+{
+    let mut above = [0u16; 256];
+    let mut here = [0u16; 256];
+    let mut next = [0u16; 256];
+    let mut on = [0u16; 256];
+    let e = mark_more(style.marks.horizontal);
+    row_strips::row_cells(table, n.nodes, column, lines, 1, &mut here);
+    let mut sum = 0;
+    let mut i = 0;
+    while i < n.nrows {
+        row_strips::row_cells(table, n.nodes, column, lines, i + 2, &mut next);
+        row_strips::onward(&here, &next, n.ncols, &mut on);
+        let at = place_of(n, cy, ys, i, e, style.given);
+        sum += down::one_band(
+            at, table, titles, standin, &above, &here, &next, &on, lines, longest, cx, xs,
+        );
+        above = here;
+        here = next;
+        i += 1;
+    }
+    sum
+}
