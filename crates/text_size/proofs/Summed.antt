@@ -4,11 +4,13 @@ use mathlib.Core.List.{List}
 use mathlib.Core.Bool.{Bool}
 use Prim.Native.Nat.{ℕ, suc, zero, _+_, _*_, _-_, _≤_, _<_}
 use native.Mathlib.Omega.{arith}
+use native.Mathlib.Nat.{mul-comm}
 use native.Mathlib.Numerals.{add-one}
 use native.Mathlib.Decide.{decLe}
 use lib.ListN.{length, getD, replicate}
 use Rattle.rules.specs.Measures as M
-use Rattle.rules.specs.Base.{total}
+use Rattle.rules.specs.Base.{total, halfUp}
+use Rattle.rules.specs.Lines.{digits}
 use Rattle.rules.specs.Plan.{Node}
 use Rattle.rules.specs.Levels.{view}
 use Rattle.rules.specs.Measures.{canvasWidth, canvasHeight}
@@ -17,9 +19,12 @@ use Rattle.rules.proofs.Text.{text-bound}
 use Rattle.levels.specs.Shown.{planShown}
 use Rattle.levels.proofs.Shown.{shows}
 use Rattle.row_strips.specs.Row.{cellsIn, goesIn, RowOf}
+use Rattle.marks.specs.Whole.{indexAt}
+use Rattle.marks.proofs.Facts.{index-in}
+use Rattle.marks.proofs.Picture.{laid}
 use Rattle.row_strips.specs.Parts.{rowFrom}
 use Rattle.row_strips.proofs.Made.{made}
-use Rattle.row_strips.proofs.Ranges.{column-part}
+use Rattle.row_strips.proofs.Ranges.{column-part, row-part}
 use Rattle.row_strips.proofs.Entries.{cells-none}
 use Rattle.size_laws.specs.Sums.{extra}
 use Rattle.size_laws.specs.Columns.{bandSize}
@@ -101,7 +106,7 @@ module _ {n : Numbers} {len : List ℕ → ℕ} {marks : Marks} {given : Bool} {
         (sym (band-bytes (q .known) (q .even) (sound w) i (omega (arith, q .known .numbers .rows-are)) (rowAt above here next on a) cells-are))
 
   -- ---- all of them
-  all-few : total bytes (n .nrows) < 5242881
+  pub all-few : total bytes (n .nrows) < 5242881
   unfolding text
   all-few =
       let k = q .known .numbers in
@@ -132,3 +137,43 @@ module _ {n : Numbers} {len : List ℕ → ℕ} {marks : Marks} {given : Bool} {
         on-long = eo;
         summed = rw (add-one i) (omega (arith, g .summed));
       }
+
+  -- ---- the rows above the bands
+  pub heads-ask : (1 ≤ n .ncols) × (n .ncols ≤ 256) × (halfUp (length (digits (n .ncols - 1))) ≤ getD cx (n .ncols - 1) 0) × (getD cx (n .ncols - 1) 0 ≤ n .width)
+  heads-ask =
+      let m = made (q .known) in
+      let k = q .known .numbers in
+      let l = laid len marks p (q .known .drawable) in
+      let hj : n .ncols - 1 < view p .columns = omega (arith, m .columns-some, k .columns-are) in
+      let i = index-in len marks (view p) (q .known .lawful) (l .proper-view) (n .ncols - 1) hj in
+      let x = k .cx-is (n .ncols - 1) hj in
+      let c = column-part len marks (view p) (n .ncols - 1) hj in
+      (m .columns-some, m .columns-few, omega (arith, i .2), omega (arith, c .middle, c .to-least, c .on-canvas, c .wide, k .wide))
+
+  pub sides-ask : (2 ≤ getD xs 0 0) × (getD xs 0 0 ≤ n .width) × (n .width ≤ 1048576)
+  unfolding M.columnOffset
+  sides-ask =
+      let k = q .known .numbers in
+      let hc : 0 < view p .columns = omega (arith, made (q .known) .columns-some, k .columns-are) in
+      let x : getD xs 0 0 ≡ M.d (view p) + 4 = k .x-is 0 hc in
+      let c = column-part len marks (view p) 0 hc in
+      let z = mul-comm (n .width) (n .height) in
+      let r = row-part len marks (view p) 0 (omega (arith, laid len marks p (q .known .drawable) .proper-view .rowed)) in
+      let t : 0 < n .height = omega (arith, r .on-canvas, r .to-least, r .high, k .high) in
+      (omega arith, omega (arith, c .on-canvas, c .to-least, c .wide, k .wide), times-few (n .height) (n .width) 1048576 t (omega (arith, q .area)))
+
+  pub whole : (e x y : ℕ) → e ≡ extra (marks .─)
+      → x ≡ (getD cx (n .ncols - 1) 0 - halfUp (length (digits (n .ncols - 1))) + length (digits (n .ncols - 1)) + 1) + (n .width + (n .width - (getD xs 0 0 - 2)) * e + 1) + (getD xs 0 0 - 1 + e + 1)
+      → y ≡ total bytes (n .nrows) → x + y ≡ length (text len marks p)
+  unfolding M.columnOffset headEnd indexAt
+  whole e x y ee ex ey =
+      let k = q .known .numbers in
+      let m = made (q .known) in
+      let hc : 0 < view p .columns = omega (arith, m .columns-some, k .columns-are) in
+      let hj : n .ncols - 1 < view p .columns = omega (arith, m .columns-some, k .columns-are) in
+      let fx : getD xs 0 0 ≡ M.d (view p) + 4 = k .x-is 0 hc in
+      let a : getD xs 0 0 - 2 ≡ M.d (view p) + 2 = omega arith in
+      let b : getD xs 0 0 - 1 ≡ M.d (view p) + 3 = omega arith in
+      let c = k .cx-is (n .ncols - 1) hj in
+      let t = text-bytes (q .known) (q .even) (λ j b. shows (q .showable) .sound j (omega (arith, shows (q .showable) .nodes))) in
+      rw (ex, ey, a, b, c, ee, k .rows-are, k .columns-are, k .wide) (sym t)

@@ -2,15 +2,15 @@
 ghost use mathlib.Core.Path.{_≡_};
 ghost use Prim.Native.Nat.{_+_, _*_, _-_, _≤_, _<_};
 ghost use lib.ListN.{length, getD};
-ghost use Rattle.rules.specs.Measures as measures;
-ghost use Rattle.rules.specs.Base.{total};
+ghost use Rattle.rules.specs.Base.{total, halfUp};
+ghost use Rattle.rules.specs.Lines.{digits};
 ghost use Rattle.rules.specs.Levels.{view};
 ghost use Rattle.rules.specs.Drawing.{text};
 ghost use Rattle.rules.specs.Look.{lenOf, marksIn};
 ghost use Rattle.levels.specs.Shown.{planShown};
 ghost use Rattle.row_strips.specs.Parts.{rowFrom};
 ghost use Rattle.size_laws.specs.Sums.{extra};
-ghost use Rattle.size_laws.specs.Size.{headEnd, rowsBytes};
+ghost use Rattle.size_laws.specs.Size.{rowsBytes};
 ghost use Rattle.text_size.specs.Told.{placeAt, Told};
 use crate::across::Place;
 use crate::down;
@@ -90,4 +90,42 @@ fn bands<'a>(
         i += 1;
     }
     sum
+}
+
+// The rows above the bands, of a canvas so wide: the columns' indices, the last one's column being centred at x, the axis, and the axis alone.
+fn heads(ncols: u32, width: u32, e: u32, x: u32, first: u32) -> usize
+    requires { ⌜ (1 ≤ ncols) × (ncols ≤ 256) × (halfUp (length (digits (ncols - 1))) ≤ x) × (x ≤ width) ⌝ }
+    requires { ⌜ (2 ≤ first) × (first ≤ width) × (width ≤ 1048576) × (e ≤ 3) ⌝ }
+    ensures { λ r. ⌜ (r ≡ (x - halfUp (length (digits (ncols - 1))) + length (digits (ncols - 1)) + 1) + (width + (width - (first - 2)) * e + 1) + (first - 1 + e + 1)) × (r ≤ 562949953421312) ⌝ }
+{
+    let g = text::digits(ncols - 1);
+    let head = x - tree_view::half_up(g) + g;
+    let axis = size_tally::product(width - (first - 2), e);
+    text::wide(head + 1) + (text::wide(width) + axis + 1) + text::wide(first + e)
+}
+
+// The bytes of the whole text, of a plan that no refusal meets and whose canvas is not large.
+pub fn text_size<'a>(
+    n: Numbers,
+    style: Style,
+    table: &[u32],
+    titles: &'a [u8],
+    standin: &'a [u8],
+    column: &[u32; 256],
+    lines: &[u32; 256],
+    longest: &[u32; 256],
+    cx: &[u32; 256],
+    xs: &[u32; 256],
+    cy: &[u32; 32],
+    ys: &[u32; 32],
+) -> usize
+    requires { ⌜ Told n (lenOf (style .measure)) (marksIn (style .marks)) (style .given) (now standin) (now table) (now titles) (now column) (now lines) (now longest) (now cx) (now xs) (now cy) (now ys) ⌝ }
+    ensures { λ r. ⌜ r ≡ length (text (lenOf (style .measure)) (marksIn (style .marks)) (planShown (style .given) (now (standin .entry)) (now (table .entry)) (now (titles .entry)))) ⌝ }
+{
+    let e = mark_more(style.marks.horizontal);
+    let last = text::wide(n.ncols) - 1;
+    let above = heads(n.ncols, n.width, e, cx[last], xs[0]);
+    above + bands(
+        n, style, table, titles, standin, column, lines, longest, cx, xs, cy, ys,
+    )
 }
