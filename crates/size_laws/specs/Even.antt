@@ -14,3 +14,7 @@ pub record Even (marks : Marks) (e : ℕ) : Type 0 where
   pub ╯-even : extra (marks .╯) ≡ e
   pub ┬-even : extra (marks .┬) ≡ e
   pub ┴-even : extra (marks .┴) ≡ e
+
+-- as many as ─
+abbrev pub Level : Marks → Type 0
+Level marks = Even marks (extra (marks .─))

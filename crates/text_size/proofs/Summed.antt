@@ -177,3 +177,10 @@ module _ {n : Numbers} {len : List ℕ → ℕ} {marks : Marks} {given : Bool} {
       let c = k .cx-is (n .ncols - 1) hj in
       let t = text-bytes (q .known) (q .even) (λ j b. shows (q .showable) .sound j (omega (arith, shows (q .showable) .nodes))) in
       rw (ex, ey, a, b, c, ee, k .rows-are, k .columns-are, k .wide) (sym t)
+
+  -- ---- more than the text can be
+  pub most : length (text len marks p) ≤ 4 * (n .width * n .height) + n .height
+  unfolding text
+  most =
+      rw (q .known .numbers .wide, q .known .numbers .high)
+      (omega (arith, text-bound (picture len marks (view p)) (canvasWidth len (view p)) (canvasHeight (view p))))

@@ -8,8 +8,7 @@ use Rattle.levels.specs.Shown.{planShown, Showable}
 use Rattle.marks.specs.Numbers.{endAt}
 use Rattle.row_strips.specs.Row.{bendIn}
 use Rattle.row_strips.specs.Known.{Known}
-use Rattle.size_laws.specs.Sums.{extra}
-use Rattle.size_laws.specs.Even.{Even}
+use Rattle.size_laws.specs.Even.{Level}
 use Rattle.text_size.specs.declared.across.Place.{Place}
 use Rattle.text_size.specs.declared.whole.Numbers.{Numbers}
 
@@ -33,4 +32,4 @@ pub record Told (n : Numbers) (len : List ℕ → ℕ) (marks : Marks) (given : 
   pub showable : Showable given S T B
   pub known : Known len marks (planShown given S T B) (n .width) (n .height) T (n .nodes) column lines longest cx xs (n .ncols) cy ys (n .nrows)
   pub area : n .width * n .height ≤ 1048576
-  pub even : Even marks (extra (marks .─))
+  pub even : Level marks

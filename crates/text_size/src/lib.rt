@@ -5,4 +5,4 @@ mod letters;
 mod whole;
 
 pub use whole::Numbers;
-pub use whole::text_size;
+pub use whole::needed;

@@ -11,18 +11,20 @@ ghost use Rattle.levels.specs.Shown.{planShown};
 ghost use Rattle.row_strips.specs.Parts.{rowFrom};
 ghost use Rattle.size_laws.specs.Sums.{extra};
 ghost use Rattle.size_laws.specs.Size.{rowsBytes};
+ghost use Rattle.size_laws.specs.Needed.{Needed};
 ghost use Rattle.text_size.specs.Told.{placeAt, Told};
 use crate::across::Place;
 use crate::down;
 use rules::Style;
 
-// How many nodes, columns and rows there are, and the canvas' size.
+// How many nodes, columns and rows there are, the canvas' size, and the bytes that are lent for the text.
 pub struct Numbers {
     pub nodes: usize,
     pub ncols: u32,
     pub nrows: u32,
     pub width: u32,
     pub height: u32,
+    pub room: usize,
 }
 
 // The bytes of a mark after its first.
@@ -105,7 +107,7 @@ fn heads(ncols: u32, width: u32, e: u32, x: u32, first: u32) -> usize
 }
 
 // The bytes of the whole text, of a plan that no refusal meets and whose canvas is not large.
-pub fn text_size<'a>(
+fn text_size<'a>(
     n: Numbers,
     style: Style,
     table: &[u32],
@@ -126,6 +128,32 @@ pub fn text_size<'a>(
     let last = text::wide(n.ncols) - 1;
     let above = heads(n.ncols, n.width, e, cx[last], xs[0]);
     above + bands(
+        n, style, table, titles, standin, column, lines, longest, cx, xs, cy, ys,
+    )
+}
+
+// What the text needs, if that is more than the room. (It is not counted where the room has four bytes for each cell and one for each row.)
+pub fn needed<'a>(
+    n: Numbers,
+    style: Style,
+    table: &[u32],
+    titles: &'a [u8],
+    standin: &'a [u8],
+    column: &[u32; 256],
+    lines: &[u32; 256],
+    longest: &[u32; 256],
+    cx: &[u32; 256],
+    xs: &[u32; 256],
+    cy: &[u32; 32],
+    ys: &[u32; 32],
+) -> usize
+    requires { ⌜ Told n (lenOf (style .measure)) (marksIn (style .marks)) (style .given) (now standin) (now table) (now titles) (now column) (now lines) (now longest) (now cx) (now xs) (now cy) (now ys) ⌝ }
+    ensures { λ r. ⌜ Needed (text (lenOf (style .measure)) (marksIn (style .marks)) (planShown (style .given) (now (standin .entry)) (now (table .entry)) (now (titles .entry)))) (n .room) r ⌝ }
+{
+    if 4 * tree_view::area(n.width, n.height) + text::wide(n.height) <= n.room {
+        return 0;
+    }
+    text_size(
         n, style, table, titles, standin, column, lines, longest, cx, xs, cy, ys,
     )
 }
