@@ -36,43 +36,7 @@ pub ready : {len : List ℕ → ℕ} {marks : Marks} {given : Bool} {S T B : Lis
     → Short len → Showable given S T B → nodes ≡ count T → 0 < nodes → Measured len T (planShown given S T B) C L G → Laid len (view (planShown given S T B)) cx ncols cy ys nrows
     → Sized len (view (planShown given S T B)) size → ((j : ℕ) → j < ncols → getD xs j 0 ≡ columnOffset len (view (planShown given S T B)) j)
     → Ready len marks given S T B (size .width) (size .height) nodes C L G cx xs ncols cy ys nrows
-ready {len} {marks} {given} {S} {T} {B} {nodes} {C} {L} {G} {cx} {xs} {ncols} ok short a all some m l s offsets =
-    let p = planShown given S T B in
-    let w = shows a in
-    let n = w .nodes in
-    let r : Arrays len p cx _ _ _ L G = arrays short w m l (filled (middleAt C cx) 0 (count T) (replicate 256 0)) refl in
-    record {
-      showable = a;
-      known =
-          record {
-            lawful = ok;
-            short = short;
-            drawable =
-                record {
-                  some = omega arith;
-                  sized = omega (arith, w .few);
-                  depths = first-none (badDepth p) (length p) (λ k h. replaced-bad (standinOf given S) (planOf T B) k ∙ a .table .depths k (omega arith));
-                };
-            small = small w;
-            numbers =
-                record {
-                  wide = s .width-is;
-                  high = s .height-is;
-                  columns-are = l .count-is;
-                  rows-are = l .row-count-is;
-                  cx-is = r .cx-is;
-                  x-is = λ j h. offsets j (omega (arith, l .count-is));
-                  cy-is = r .cy-is;
-                  y-is = r .offset-is;
-                };
-            counted = all ∙ sym n;
-            room = omega (arith, w .whole);
-            depths = λ k h. sym (w .depths k);
-            columns = λ k h. column-of short w m k (omega arith);
-            lines-are = λ k h. r .nodes-are k (omega arith) .lines-is;
-            longest-are = λ k h. r .nodes-are k (omega arith) .longest-is;
-          };
-    }
+ready ok short a all some m l s offsets = record { showable = a; known = known ok short a all some m l s offsets }
 
 module _ {len : List ℕ → ℕ} {marks : Marks} {given : Bool} {S T B : List ℕ} {w h nodes : ℕ} {C L G cx xs : List ℕ} {ncols : ℕ} {cy ys : List ℕ} {nrows : ℕ}
     (q : Ready len marks given S T B w h nodes C L G cx xs ncols cy ys nrows) where
