@@ -1,33 +1,26 @@
 -- The arrays that are filled from a table that is not refused hold the numbers of its plan; and its text has room in a row that is wide enough.
-use mathlib.Core.Path.{_≡_, refl, ap, sym, _∙_}
+use mathlib.Core.Path.{_≡_, ap, _∙_}
 use mathlib.Core.List.{List}
 use mathlib.Core.Bool.{Bool, true, false, false≢true}
 use Prim.Native.Nat.{ℕ, _+_, _*_, _≤_, _<_}
 use native.Mathlib.Nat.{mul-le-mul-left}
 use native.Mathlib.Omega.{arith}
-use lib.ListN.{length, getD, replicate}
+use lib.ListN.{length, getD}
 use lib.Seq.{sets}
 use Rattle.rules.specs.Base.{pick, laid}
-use Rattle.rules.specs.Numbers.{badDepth}
-use Rattle.rules.specs.Plan.{count, planOf}
-use Rattle.rules.specs.Standin.{standinOf}
+use Rattle.rules.specs.Plan.{count}
 use Rattle.rules.specs.Levels.{view}
 use Rattle.rules.specs.Measures.{columnOffset, canvasWidth, canvasHeight}
 use Rattle.rules.specs.Drawing.{Marks, picture, text}
-use Rattle.rules.proofs.Lists.{first-none, laid-sets}
-use Rattle.rules.proofs.Replaced.{replaced-bad}
+use Rattle.rules.proofs.Lists.{laid-sets}
 use Rattle.levels.specs.Shown.{planShown, Showable}
-use Rattle.levels.specs.Filled.{filled}
-use Rattle.levels.proofs.Shown.{shows, small}
 use Rattle.marks.specs.Lawful.{Lawful}
 use Rattle.tree_view.specs.Measured.{Short}
-use Rattle.tree_view.specs.Sizes.{middleAt}
 use Rattle.tree_view.proofs.Limits.{canvas-height-le}
 use Rattle.canvas.specs.declared.draw.Size.{Size}
-use Rattle.canvas_text.specs.Emit.{Needed}
 use Rattle.canvas_text.proofs.EmitText.{text-size}
-use Rattle.tree_format.specs.Sized.{Measured, Laid, Sized, Arrays}
-use Rattle.tree_format.proofs.Measures.{column-of, arrays}
+use Rattle.tree_format.specs.Sized.{Measured, Laid, Sized}
+use Rattle.tree_format.proofs.Readied.{known}
 use Rattle.row_cells.specs.Band.{Ready}
 use Rattle.row_walk.specs.Told.{textFrom, Added, Lent}
 use Rattle.row_walk.proofs.Adds.{text-whole}
@@ -51,10 +44,6 @@ module _ {len : List ℕ → ℕ} {marks : Marks} {given : Bool} {S T B : List �
 
   pub height-few : h ≤ 65536
   height-few = omega (arith, q .known .numbers .high, canvas-height-le (planShown given S T B) (q .known .small))
-
-  -- enough for all that the text can be
-  pub ample : (room : ℕ) → 4 * (w * h) + h ≤ room → Needed all room 0
-  ample room e = record { told = λ l. absurd (omega arith); fits = λ l. omega (arith, bound) }
 
   -- a canvas of few cells has a narrow row and a short text
   pub lent : w * h ≤ 1048576 → (room : ℕ) → Lent len marks (planShown given S T B) w false room
