@@ -63,7 +63,18 @@ fn counted<'a>(
         room: out.len(),
     };
     let need = text_size::needed(
-        n, style, table, titles, standin, column, lines, longest, cx, xs, cy, ys,
+        n,
+        style,
+        table,
+        titles,
+        standin,
+        column,
+        lines,
+        longest,
+        cx,
+        xs,
+        cy,
+        ys,
     );
     if need <= n.room {
         return need;

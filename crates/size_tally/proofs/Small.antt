@@ -7,7 +7,6 @@ use native.Mathlib.Nat.{mul-le-mul}
 pub small : (x y a b : ℕ) → x ≡ a → y ≡ b → a ≤ 16777216 → b ≤ 16777216 → x * y ≤ 281474976710656
 small x y a b e f h k = rw (e, f) (omega (arith, mul-le-mul h k))
 
-
 pub least-few : (r a b n : ℕ) → r ≡ min a b → b ≤ n → r ≤ n
 least-few r a b n e h = omega arith
 

@@ -144,16 +144,7 @@ fn gap_more(s: Spot, e: u32, end: u32, a: u32, b: u32) -> usize
 }
 
 // One column more: from a up to b, of a band from `top` up to `end`, its title having `own` bytes that begin no letter; e as above.
-pub fn take(
-    t: Tally,
-    s: Spot,
-    e: u32,
-    top: u32,
-    end: u32,
-    a: u32,
-    b: u32,
-    own: usize,
-) -> Tally
+pub fn take(t: Tally, s: Spot, e: u32, top: u32, end: u32, a: u32, b: u32, own: usize) -> Tally
     requires { ⌜ Kept t × (s .cell ≡ true → Boxed s top (min (s .bend) end)) × Slight s a b ⌝ }
     requires { ⌜ (e ≤ 3) × (end ≤ 1048576) × (own ≤ 1024) ⌝ }
     ensures { λ r. ⌜ (r ≡ taken (plain s) e top end a b own t) × Grown t r ⌝ }

@@ -65,7 +65,7 @@ module _ {S T B L G cx xs above here next on : List ℕ} {at : Place} (q : Acros
 
   pub one-more : {j : ℕ} {t : Tally} → Now j t → 0 < j → (first-is over-is : ℕ) → first-is ≡ first (λ k. some here k) (at .ncols) → over-is ≡ first (λ k. some above k) (at .ncols)
       → (r : Tally) → r ≡ taken (plain (spotAt at (jointBy first-is over-is here next on (j - 1)) L G (getD cx (j - 1) 0))) (at .e) (at .top) (at .end) (getD xs (j - 1) 0) (endAt xs (at .ncols) (at .width) (j - 1))
-          (ownOf (planShown (at .given) S T B) (getD here (j - 1) 0)) t
+      (ownOf (planShown (at .given) S T B) (getD here (j - 1) 0)) t
       → Grown t r → Now (j - 1) r
   unfolding tallied
   one-more {j} {t} g h f o ef eo r e w =
@@ -96,7 +96,7 @@ module _ {S T B L G cx xs above here next on : List ℕ} {at : Place} (q : Acros
       let n = q .known .numbers in
       let m = row-ends q in
       let c = covers (spotIn r L G cx) (λ k. getD xs k 0) (endAt xs (at .ncols) (at .width)) (ownIn (planShown (at .given) S T B) here) (at .e) (at .top) (at .end) (at .middle) (at .bend) (m .0) (omega (arith, m .1, m .3)) 0 (at .ncols)
-          (λ k a b. fit (q .known) (q .even) (sound q) (q .i) (omega (arith, n .rows-are, q .row-in)) r (q .cells) k (omega (arith, n .columns-are)) (min (at .bend) (at .end)) refl) in
+      (λ k a b. fit (q .known) (q .even) (sound q) (q .i) (omega (arith, n .rows-are, q .row-in)) r (q .cells) k (omega (arith, n .columns-are)) (min (at .bend) (at .end)) refl) in
       rw e (c .over, c .under)
 
 -- sums of such numbers fit

@@ -152,7 +152,17 @@ pub(crate) fn tally<'a>(
         let q = joint_at(j, first, over, here, next, on);
         let b = row_strips::column_end(xs, at.ncols, j, at.width);
         t = step(
-            t, at, q, table, titles, standin, lines, longest, cx[j], xs[j], b,
+            t,
+            at,
+            q,
+            table,
+            titles,
+            standin,
+            lines,
+            longest,
+            cx[j],
+            xs[j],
+            b,
         );
     }
     t

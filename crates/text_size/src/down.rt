@@ -61,7 +61,18 @@ pub(crate) fn one_band<'a>(
         (tallyIn (planShown (at .given) (now (standin .entry)) (now (table .entry)) (now (titles .entry))) (rowAt (now (above .entry)) (now (here .entry)) (now (next .entry)) (now (on .entry)) at) (now (lines .entry)) (now (longest .entry)) (now (cx .entry)) (now (xs .entry)) (at .ncols) (at .width) (at .e) 0 (at .ncols)) ⌝ }
 {
     let t = across::tally(
-        at, table, titles, standin, above, here, next, on, lines, longest, cx, xs,
+        at,
+        table,
+        titles,
+        standin,
+        above,
+        here,
+        next,
+        on,
+        lines,
+        longest,
+        cx,
+        xs,
     );
     band_bytes(at, xs[0] - 1, t)
 }

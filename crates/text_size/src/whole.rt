@@ -85,7 +85,18 @@ fn bands<'a>(
         row_strips::onward(&here, &next, n.ncols, &mut on);
         let at = place_of(n, cy, ys, i, e, style.given);
         sum += down::one_band(
-            at, table, titles, standin, &above, &here, &next, &on, lines, longest, cx, xs,
+            at,
+            table,
+            titles,
+            standin,
+            &above,
+            &here,
+            &next,
+            &on,
+            lines,
+            longest,
+            cx,
+            xs,
         );
         above = here;
         here = next;
@@ -127,9 +138,21 @@ fn text_size<'a>(
     let e = mark_more(style.marks.horizontal);
     let last = text::wide(n.ncols) - 1;
     let above = heads(n.ncols, n.width, e, cx[last], xs[0]);
-    above + bands(
-        n, style, table, titles, standin, column, lines, longest, cx, xs, cy, ys,
-    )
+    above
+        + bands(
+            n,
+            style,
+            table,
+            titles,
+            standin,
+            column,
+            lines,
+            longest,
+            cx,
+            xs,
+            cy,
+            ys,
+        )
 }
 
 // What the text needs, if that is more than the room. (It is not counted where the room has four bytes for each cell and one for each row.)
@@ -154,6 +177,17 @@ pub fn needed<'a>(
         return 0;
     }
     text_size(
-        n, style, table, titles, standin, column, lines, longest, cx, xs, cy, ys,
+        n,
+        style,
+        table,
+        titles,
+        standin,
+        column,
+        lines,
+        longest,
+        cx,
+        xs,
+        cy,
+        ys,
     )
 }

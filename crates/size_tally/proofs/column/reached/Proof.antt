@@ -37,15 +37,14 @@ add-t13 c = search needs
 
 returns : tie.Need-returns
 unfolding reach
-returns c = 
+returns c =
     let m = c .before in
     let l = m .before in
     let b = l .before in
     let a = b .before in
     let t = a .before in
     let f = t .before .before .before in
-    let s = f .before in
-    (
+    let s = f .before in (
       rw (l .least .ensures, m .greater .ensures, a .above-ends .ensures .0, b .below-ends .ensures .0, t .choose .ensures .0, f .reach-from .ensures .0),
       omega (arith, a .above-ends .ensures .1, b .below-ends .ensures .1),
       least-few _ _ _ 1048576 (l .least .ensures) (s .pre .0 .lo-few),

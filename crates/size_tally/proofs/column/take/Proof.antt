@@ -39,15 +39,14 @@ add-t12 c = search needs
 
 returns : tie.Need-returns
 unfolding taken fieldMore
-returns c = 
+returns c =
     let d = c .before .before in
     let o = d .before in
     let n = o .before in
     let g = n .before in
     let b = g .before in
     let r = b .before in
-    let l = r .before in
-    (
+    let l = r .before in (
       rw (r .reached-by .ensures .0, o .or-else .ensures .0, n .bend-end .ensures .0, c .before .or-else2 .ensures .0, d .drop-end .ensures .0, b .box-more .ensures .0, g .gap-more .ensures .0, l .least .ensures),
       record {
         lo-few = r .reached-by .ensures .2;

@@ -11,10 +11,9 @@ use Rattle.text_size.proofs.across.step.Statement.{statement}
 use Rattle.text_size.proofs.across.step.Tie as tie
 
 returns : tie.Need-returns
-returns c = 
+returns c =
     let s = c .before .before .before .before .before .before in
-    let q = none-there (eqb (s .args .q .k) 0) (s .args .q .child) (s .args .q .on) (c .if1 .taken) in
-    (
+    let q = none-there (eqb (s .args .q .k) 0) (s .args .q .child) (s .args .q .on) (c .if1 .taken) in (
       none-taken (plain (spotAt (s .args .at) (s .args .q) (s .args .lines .now) (s .args .longest .now) (s .args .x))) _ _ _ _ _ _ (s .args .t) (q .0) (q .1) (q .2),
       record { lo-few = s .pre .0 .lo-few; hi-few = s .pre .0 .hi-few; bend-few = s .pre .0 .bend-few; drop-few = s .pre .0 .drop-few; ends-few = omega arith; more-few = omega arith },
     )
@@ -29,14 +28,14 @@ size-of-requires-2 : tie.Need-size-of-requires-2
 size-of-requires-2 c κs = search needs
 
 spot-of-requires : tie.Need-spot-of-requires
-spot-of-requires c κs = 
+spot-of-requires c κs =
     let b = c .before .before .before .before .before in
     let s = b .before .before .before .before .before in
     let a = s .pre .1 in
     rw (c .size-of2 .ensures, c .before .size-of .ensures) ((a .left-room, a .wide-fits), (a .top-room, a .high-fits))
 
 take-requires : tie.Need-take-requires
-take-requires c κs = 
+take-requires c κs =
     let m = c .before in
     let n = m .before in
     let o = n .before .before in
@@ -46,7 +45,7 @@ take-requires c κs =
     ((s .pre .0, rw e (a .boxed), rw e (a .slight)), (a .e-few, a .end-few, o .own-of .ensures .1))
 
 returns-2 : tie.Need-returns-2
-returns-2 c = 
+returns-2 c =
     let p = c .before in
     let m = p .before in
     let n = m .before in

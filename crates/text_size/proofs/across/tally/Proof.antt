@@ -33,7 +33,7 @@ sub-j : tie.Need-sub-j Inv-loop μ-loop
 sub-j c = search needs
 
 joint-at-requires : tie.Need-joint-at-requires Inv-loop μ-loop
-joint-at-requires c κs = 
+joint-at-requires c κs =
     let l = c .before in
     let a = l .before in
     let w = a .before .before .wide .ensures in
@@ -57,7 +57,7 @@ element-copy-out-step-2 : tie.Need-element-copy-out-step-2 Inv-loop μ-loop
 element-copy-out-step-2 c = search needs
 
 step-requires : tie.Need-step-requires Inv-loop μ-loop
-step-requires c κs = 
+step-requires c κs =
     let x = c .before .before in
     let j = x .before in
     let l = j .before .before in
@@ -71,7 +71,7 @@ loop-less : tie.Need-loop-less Inv-loop μ-loop
 loop-less c = search needs
 
 loop-again : tie.Need-loop-again Inv-loop μ-loop
-loop-again c = 
+loop-again c =
     let x = c .before .before .before in
     let j = x .before in
     let l = j .before .before in

@@ -41,7 +41,7 @@ add-result-2 : tie.Need-add-result-2
 add-result-2 c = search needs
 
 add-result-3 : tie.Need-add-result-3
-add-result-3 c = 
+add-result-3 c =
     let n = c .before .before in
     let g = n .before .before .before in
     let p = g .before in
@@ -49,7 +49,7 @@ add-result-3 c =
     record { fits = all-few 0 _ _ _ (s .pre .0 .0) (p .product .ensures .1) (g .gap-ends .ensures .1) (omega arith) .0 }
 
 add-result-4 : tie.Need-add-result-4
-add-result-4 c = 
+add-result-4 c =
     let n = c .before .before in
     let g = n .before .before .before in
     let p = g .before in
@@ -58,7 +58,7 @@ add-result-4 c =
 
 returns : tie.Need-returns
 unfolding bandSize
-returns c = 
+returns c =
     let n = c .before .before in
     let g = n .before .before .before in
     let p = g .before in

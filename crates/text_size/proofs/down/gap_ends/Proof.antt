@@ -30,11 +30,10 @@ add-result c = search needs
 
 returns : tie.Need-returns
 unfolding pick
-returns c = 
+returns c =
     let o = c .before in
     let p = o .before in
-    let d = p .before in
-    (
+    let d = p .before in (
       rw (c .wide .ensures, o .or-else2 .ensures .0, p .product .ensures .0, d .or-else .ensures .0, lt-ltb _ _ (d .before .before .before .if1 .taken)),
       omega (arith, c .wide .ensures, o .or-else2 .ensures .1, p .product .ensures .1),
     )

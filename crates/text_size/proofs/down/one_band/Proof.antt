@@ -17,7 +17,7 @@ sub-band-bytes : tie.Need-sub-band-bytes
 sub-band-bytes c = margin-is (c .before .before .before .before .before .pre) .1
 
 band-bytes-requires : tie.Need-band-bytes-requires
-band-bytes-requires c κs = 
+band-bytes-requires c κs =
     let t = c .before in
     let q = t .before .before .before .before .pre in
     let b = in-band q _ (t .tally .ensures .0) in

@@ -28,7 +28,7 @@ sub-result : tie.Need-sub-result
 sub-result c = let t = c .before in let s = t .before .before .before .before .before in omega (arith, c .points-in .ensures, letters (s .pre .0) (s .args .k) (λ z. absurd (omega arith)) (s .pre .1) _ (t .shown-title .ensures) .fewer)
 
 returns-2 : tie.Need-returns-2
-returns-2 c = 
+returns-2 c =
     let t = c .before in
     let s = t .before .before .before .before .before in
     let l = letters (s .pre .0) (s .args .k) (λ z. absurd (omega arith)) (s .pre .1) _ (t .shown-title .ensures) in

@@ -38,14 +38,14 @@ row-cells-requires-2 : tie.Need-row-cells-requires-2 Inv-loop μ-loop
 row-cells-requires-2 c κs = let l = c .before .before .before in let q = l .before .before .before .before .before .before .before .pre .known in ((q .room, made q .nodes-few), made q .keys)
 
 onward-requires : tie.Need-onward-requires Inv-loop μ-loop
-onward-requires c κs = 
+onward-requires c κs =
     let l = c .before .before .before .before .before .before .before in
     let s = l .before .before .before .before .before .before .before in
     let m = made (s .pre .known) in
     (m .columns-some, m .columns-few, l .loop .inv .on-long)
 
 place-of-requires : tie.Need-place-of-requires Inv-loop μ-loop
-place-of-requires c κs = 
+place-of-requires c κs =
     let t = c .before .before .before .before .before .before in
     let l = t .before .before in
     let s = l .before .before .before .before .before .before .before in
@@ -53,7 +53,7 @@ place-of-requires c κs =
     ((omega (arith, t .if1 .taken), m .rows-few, m .height-few), m .gaps (l .loop .i))
 
 one-band-requires : tie.Need-one-band-requires Inv-loop μ-loop
-one-band-requires c κs = 
+one-band-requires c κs =
     let b = c .before .before .before .before in
     let o = b .before in
     let k = o .before .before .before .before in
@@ -65,7 +65,7 @@ one-band-requires c κs =
     across (s .pre) (l .loop .i) (omega (arith, t .if1 .taken)) (l .loop .above) (l .loop .here) (k .row-cells2 .last .1 .1 .1 .1 .1 .0) (o .onward .last .1 .1 .1 .0) (g .above-is) (g .here-is) (k .row-cells2 .ensures) (o .onward .ensures .1) _ (a .before .before .mark-more .ensures .0) _ (b .place-of .ensures)
 
 add-sum : tie.Need-add-sum Inv-loop μ-loop
-add-sum c = 
+add-sum c =
     let b = c .before .before .before .before .before in
     let o = b .before in
     let k = o .before .before .before .before in
@@ -77,7 +77,7 @@ add-sum c =
     record { fits = sum-few (s .pre) g (omega (arith, t .if1 .taken)) _ (band-is (s .pre) (l .loop .i) (omega (arith, t .if1 .taken)) (l .loop .above) (l .loop .here) (k .row-cells2 .last .1 .1 .1 .1 .1 .0) (o .onward .last .1 .1 .1 .0) (g .above-is) (g .here-is) (k .row-cells2 .ensures) (o .onward .ensures .1) _ (a .before .before .mark-more .ensures .0) _ (b .place-of .ensures) _ (c .one-band .ensures)) }
 
 add-i : tie.Need-add-i Inv-loop μ-loop
-add-i c = 
+add-i c =
     let b = c .before .before .before .before .before in
     let o = b .before in
     let k = o .before .before .before .before in
@@ -92,7 +92,7 @@ loop-less : tie.Need-loop-less Inv-loop μ-loop
 loop-less c = omega arith
 
 loop-again : tie.Need-loop-again Inv-loop μ-loop
-loop-again c = 
+loop-again c =
     let b = c .before .before .before .before .before in
     let o = b .before in
     let k = o .before .before .before .before in
@@ -104,7 +104,7 @@ loop-again c =
     one-more (s .pre) g (omega (arith, t .if1 .taken)) _ (band-is (s .pre) (l .loop .i) (omega (arith, t .if1 .taken)) (l .loop .above) (l .loop .here) (k .row-cells2 .last .1 .1 .1 .1 .1 .0) (o .onward .last .1 .1 .1 .0) (g .above-is) (g .here-is) (k .row-cells2 .ensures) (o .onward .ensures .1) _ (a .before .before .mark-more .ensures .0) _ (b .place-of .ensures) _ (c .one-band .ensures)) _ _ (k .row-cells2 .ensures) (o .onward .ensures .0)
 
 returns : tie.Need-returns Inv-loop μ-loop
-returns c = 
+returns c =
     let l = c .before .before in
     let z : l .loop .i ≡ l .before .before .before .before .before .before .before .args .n .nrows = omega (arith, l .loop .inv .within) in
     rw z at (l .loop .inv .summed)

@@ -59,15 +59,14 @@ add-result-4 : tie.Need-add-result-4
 add-result-4 c = search needs
 
 returns : tie.Need-returns
-returns c = 
+returns c =
     let w = c .before .before in
     let p = w .before in
     let h = p .before in
     let d = h .before in
     let s = d .before in
     let f = digits-few (s .args .ncols - 1) (omega (arith, s .pre .0 .1)) in
-    let z : s .args .first + s .args .e ≡ s .args .first - 1 + s .args .e + 1 = omega (arith, s .pre .1 .0) in
-    (
+    let z : s .args .first + s .args .e ≡ s .args .first - 1 + s .args .e + 1 = omega (arith, s .pre .1 .0) in (
       rw (w .wide .ensures, c .before .wide2 .ensures, c .wide3 .ensures, p .product .ensures .0, h .half-up .ensures, d .digits .ensures, z) (omega arith),
       omega (arith, w .wide .ensures, c .before .wide2 .ensures, c .wide3 .ensures, p .product .ensures .1, d .digits .ensures),
     )

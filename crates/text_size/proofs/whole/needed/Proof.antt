@@ -18,7 +18,7 @@ add-if1 : tie.Need-add-if1
 add-if1 c = search needs
 
 returns : tie.Need-returns
-returns c = 
+returns c =
     let w = c .before .before in
     let a = w .before in
     let s = a .before .before .before .before in

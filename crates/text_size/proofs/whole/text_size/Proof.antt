@@ -25,7 +25,7 @@ element-copy-out-heads-2 : tie.Need-element-copy-out-heads-2
 element-copy-out-heads-2 c = search needs
 
 heads-requires : tie.Need-heads-requires
-heads-requires c κs = 
+heads-requires c κs =
     let w = c .before .before in
     let m = w .before in
     let s = m .before .before .before .before in
@@ -37,13 +37,13 @@ bands-requires : tie.Need-bands-requires
 bands-requires c κs = search needs
 
 add-result : tie.Need-add-result
-add-result c = 
+add-result c =
     let h = c .before in
     let s = h .before .before .before .before .before .before .before .before in
     record { fits = omega (arith, h .heads .ensures .1, c .bands .ensures, all-few (s .pre)) }
 
 returns : tie.Need-returns
-returns c = 
+returns c =
     let h = c .before in
     let w = h .before .before .before in
     let m = w .before in
