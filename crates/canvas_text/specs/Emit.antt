@@ -63,8 +63,3 @@ cellsIn f = f .a ∷ f .b ∷ f .c ∷ f .d ∷ []
 -- the bytes of n marks ─
 unfoldable pub lineBytes : ℕ → List ℕ
 lineBytes n = each (λ k. utf8 0x2500) n
-
--- r is what the text t needs, if that is more than `room`; else no more than `room`
-pub record Needed (t : List ℕ) (room r : ℕ) : Type 0 where
-  pub told : room < r → r ≡ length t
-  pub fits : r ≤ room → length t ≤ room

@@ -8,7 +8,7 @@ ghost use lib.Seq.{sets};
 ghost use Rattle.rules.specs.Base.{laid};
 ghost use Rattle.rules.specs.Utf8.{utf8};
 ghost use Rattle.rules.specs.Drawing.{endOf, textOf};
-ghost use Rattle.canvas_text.specs.Emit.{cellsOf, rowOf, fourAt, Same, Plain, Over, cellsIn, lineBytes, endIn, bytesTo, bytesIn, rowIn, Needed};
+ghost use Rattle.canvas_text.specs.Emit.{cellsOf, rowOf, fourAt, Same, Plain, Over, cellsIn, lineBytes, endIn, bytesTo, bytesIn, rowIn};
 
 // Four cells side by side. (A row is looked at in fours and sixteens, which the compiler keeps in wide registers.)
 pub struct Four {
@@ -178,33 +178,6 @@ pub fn row_bytes(row: &[u32]) -> usize
     ensures { λ r. ⌜ r ≡ length (rowIn (now (row .entry))) ⌝ }
 {
     bytes_to(row, trimmed(row)) + 1
-}
-
-// The bytes of the whole text.
-fn text_bytes(cells: &[u32], width: usize, height: usize) -> usize
-    requires { ⌜ (width * height ≤ length (now cells)) × (width * height ≤ 1048576) × (height ≤ 65536) ⌝ }
-    ensures { λ r. ⌜ r ≡ length (textOf (cellsOf (now (cells .entry)) width) width height) ⌝ }
-{
-    let mut bytes = 0;
-    let mut y = 0;
-    while y < height {
-        let from = y * width;
-        let to = from + width;
-        bytes += row_bytes(&cells[from..to]);
-        y += 1;
-    }
-    bytes
-}
-
-// What the whole text needs, if that is more than `room`. (It is not counted where `room` has four bytes for each cell and one for each row.)
-pub fn needed(cells: &[u32], width: usize, height: usize, room: usize) -> usize
-    requires { ⌜ (width * height ≤ length (now cells)) × (width * height ≤ 1048576) × (height ≤ 65536) ⌝ }
-    ensures { λ r. ⌜ Needed (textOf (cellsOf (now (cells .entry)) width) width height) room r ⌝ }
-{
-    if 4 * (width * height) + height <= room {
-        return 0;
-    }
-    text_bytes(cells, width, height)
 }
 
 // Writes four cells of one byte each.

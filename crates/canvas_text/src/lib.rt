@@ -2,7 +2,6 @@
 mod emit;
 
 pub use emit::bytes_to;
-pub use emit::needed;
 pub use emit::row_bytes;
 pub use emit::trimmed;
 pub use emit::write_row;

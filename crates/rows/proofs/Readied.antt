@@ -1,33 +1,26 @@
 -- The arrays that are filled from a table that is not refused hold the numbers of its plan; and its text has room in a row that is wide enough.
-use mathlib.Core.Path.{_≡_, refl, ap, sym, _∙_}
+use mathlib.Core.Path.{_≡_, ap, _∙_}
 use mathlib.Core.List.{List}
 use mathlib.Core.Bool.{Bool, true, false, false≢true}
 use Prim.Native.Nat.{ℕ, _+_, _*_, _≤_, _<_}
 use native.Mathlib.Nat.{mul-le-mul-left}
 use native.Mathlib.Omega.{arith}
-use lib.ListN.{length, getD, replicate}
+use lib.ListN.{length, getD}
 use lib.Seq.{sets}
 use Rattle.rules.specs.Base.{pick, laid}
-use Rattle.rules.specs.Numbers.{badDepth}
-use Rattle.rules.specs.Plan.{count, planOf}
-use Rattle.rules.specs.Standin.{standinOf}
+use Rattle.rules.specs.Plan.{count}
 use Rattle.rules.specs.Levels.{view}
 use Rattle.rules.specs.Measures.{columnOffset, canvasWidth, canvasHeight}
 use Rattle.rules.specs.Drawing.{Marks, picture, text}
-use Rattle.rules.proofs.Lists.{first-none, laid-sets}
-use Rattle.rules.proofs.Replaced.{replaced-bad}
+use Rattle.rules.proofs.Lists.{laid-sets}
 use Rattle.levels.specs.Shown.{planShown, Showable}
-use Rattle.levels.specs.Filled.{filled}
-use Rattle.levels.proofs.Shown.{shows, small}
 use Rattle.marks.specs.Lawful.{Lawful}
 use Rattle.tree_view.specs.Measured.{Short}
-use Rattle.tree_view.specs.Sizes.{middleAt}
 use Rattle.tree_view.proofs.Limits.{canvas-height-le}
 use Rattle.canvas.specs.declared.draw.Size.{Size}
-use Rattle.canvas_text.specs.Emit.{Needed}
 use Rattle.canvas_text.proofs.EmitText.{text-size}
-use Rattle.tree_format.specs.Sized.{Measured, Laid, Sized, Arrays}
-use Rattle.tree_format.proofs.Measures.{column-of, arrays}
+use Rattle.tree_format.specs.Sized.{Measured, Laid, Sized}
+use Rattle.tree_format.proofs.Readied.{known}
 use Rattle.row_cells.specs.Band.{Ready}
 use Rattle.row_walk.specs.Told.{textFrom, Added, Lent}
 use Rattle.row_walk.proofs.Adds.{text-whole}
@@ -36,43 +29,7 @@ pub ready : {len : List ℕ → ℕ} {marks : Marks} {given : Bool} {S T B : Lis
     → Short len → Showable given S T B → nodes ≡ count T → 0 < nodes → Measured len T (planShown given S T B) C L G → Laid len (view (planShown given S T B)) cx ncols cy ys nrows
     → Sized len (view (planShown given S T B)) size → ((j : ℕ) → j < ncols → getD xs j 0 ≡ columnOffset len (view (planShown given S T B)) j)
     → Ready len marks given S T B (size .width) (size .height) nodes C L G cx xs ncols cy ys nrows
-ready {len} {marks} {given} {S} {T} {B} {nodes} {C} {L} {G} {cx} {xs} {ncols} ok short a all some m l s offsets =
-    let p = planShown given S T B in
-    let w = shows a in
-    let n = w .nodes in
-    let r : Arrays len p cx _ _ _ L G = arrays short w m l (filled (middleAt C cx) 0 (count T) (replicate 256 0)) refl in
-    record {
-      showable = a;
-      known =
-          record {
-            lawful = ok;
-            short = short;
-            drawable =
-                record {
-                  some = omega arith;
-                  sized = omega (arith, w .few);
-                  depths = first-none (badDepth p) (length p) (λ k h. replaced-bad (standinOf given S) (planOf T B) k ∙ a .table .depths k (omega arith));
-                };
-            small = small w;
-            numbers =
-                record {
-                  wide = s .width-is;
-                  high = s .height-is;
-                  columns-are = l .count-is;
-                  rows-are = l .row-count-is;
-                  cx-is = r .cx-is;
-                  x-is = λ j h. offsets j (omega (arith, l .count-is));
-                  cy-is = r .cy-is;
-                  y-is = r .offset-is;
-                };
-            counted = all ∙ sym n;
-            room = omega (arith, w .whole);
-            depths = λ k h. sym (w .depths k);
-            columns = λ k h. column-of short w m k (omega arith);
-            lines-are = λ k h. r .nodes-are k (omega arith) .lines-is;
-            longest-are = λ k h. r .nodes-are k (omega arith) .longest-is;
-          };
-    }
+ready ok short a all some m l s offsets = record { showable = a; known = known ok short a all some m l s offsets }
 
 module _ {len : List ℕ → ℕ} {marks : Marks} {given : Bool} {S T B : List ℕ} {w h nodes : ℕ} {C L G cx xs : List ℕ} {ncols : ℕ} {cy ys : List ℕ} {nrows : ℕ}
     (q : Ready len marks given S T B w h nodes C L G cx xs ncols cy ys nrows) where
@@ -87,10 +44,6 @@ module _ {len : List ℕ → ℕ} {marks : Marks} {given : Bool} {S T B : List �
 
   pub height-few : h ≤ 65536
   height-few = omega (arith, q .known .numbers .high, canvas-height-le (planShown given S T B) (q .known .small))
-
-  -- enough for all that the text can be
-  pub ample : (room : ℕ) → 4 * (w * h) + h ≤ room → Needed all room 0
-  ample room e = record { told = λ l. absurd (omega arith); fits = λ l. omega (arith, bound) }
 
   -- a canvas of few cells has a narrow row and a short text
   pub lent : w * h ≤ 1048576 → (room : ℕ) → Lent len marks (planShown given S T B) w false room

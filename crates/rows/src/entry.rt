@@ -2,7 +2,7 @@
 ghost use mathlib.Core.Path.{_≡_};
 ghost use mathlib.Core.Bool.{true, false};
 ghost use mathlib.Core.List.{[]};
-ghost use Prim.Native.Nat.{ℕ, _<_};
+ghost use Prim.Native.Nat.{ℕ, _*_, _≤_, _<_};
 ghost use lib.ListN.{length, getD};
 ghost use Rattle.rules.specs.Plan.{count, planOf};
 ghost use Rattle.rules.specs.Levels.{columnsOf, view};
@@ -13,7 +13,8 @@ ghost use Rattle.rules.specs.Standin.{none, standinOf};
 ghost use Rattle.rules.specs.Answers.{untitled, lastRow, rowDrawing, rowAfter, rowOutAfter};
 ghost use Rattle.levels.specs.Shown.{planShown, Showable};
 ghost use Rattle.marks.specs.Lawful.{Lawful};
-ghost use Rattle.canvas_text.specs.Emit.{Needed};
+ghost use Rattle.size_laws.specs.Even.{Level};
+ghost use Rattle.size_laws.specs.Needed.{Needed};
 ghost use Rattle.tree_format.specs.Drawn.{Written};
 ghost use Rattle.tree_format.specs.Sized.{Measured, Laid, Sized};
 ghost use Rattle.row_cells.specs.Band.{Ready};
@@ -25,8 +26,9 @@ use rules::Drawing;
 use rules::Measure;
 use rules::Profile;
 use rules::Style;
+use text_size::Numbers;
 
-// What the text needs, if that is more than the output has. (It is not counted where the output has four bytes for each cell and one for each row.)
+// What the text needs, if that is more than the output has; the row is then left as the last of the drawing, which the walk makes.
 fn counted<'a>(
     row: &mut [u32],
     style: Style,
@@ -48,11 +50,34 @@ fn counted<'a>(
 ) -> usize
     requires { ⌜ Ready (lenOf (style .measure)) (marksIn (style .marks)) (style .given) (now standin) (now table) (now titles) (size .width) (size .height) nodes (now column) (now lines) (now longest) (now cx) (now xs) ncols (now cy) (now ys) nrows ⌝ }
     requires { ⌜ (length (now row) ≡ size .width) × Lent (lenOf (style .measure)) (marksIn (style .marks)) (planShown (style .given) (now standin) (now table) (now titles)) (size .width) false (length (now out)) ⌝ }
+    requires { ⌜ (size .width * size .height ≤ 1048576) × Level (marksIn (style .marks)) ⌝ }
     ensures { λ r. ⌜ Needed (text (lenOf (style .measure)) (marksIn (style .marks)) (planShown (style .given) (now (standin .entry)) (now (table .entry)) (now (titles .entry)))) (length (now (out .entry))) r ⌝ }
     ensures { λ r. ⌜ (now (out .exit) ≡ now (out .entry)) × (length (now (out .entry)) < r → now (row .exit) ≡ lastRow (lenOf (style .measure)) (marksIn (style .marks)) (planShown (style .given) (now (standin .entry)) (now (table .entry)) (now (titles .entry)))) ⌝ }
 {
-    if 4 * tree_view::area(size.width, size.height) + text::wide(size.height) <= out.len() {
-        return 0;
+    let n = Numbers {
+        nodes,
+        ncols,
+        nrows,
+        width: size.width,
+        height: size.height,
+        room: out.len(),
+    };
+    let need = text_size::needed(
+        n,
+        style,
+        table,
+        titles,
+        standin,
+        column,
+        lines,
+        longest,
+        cx,
+        xs,
+        cy,
+        ys,
+    );
+    if need <= n.room {
+        return need;
     }
     let store = false;
     row_walk::walk(
@@ -152,6 +177,7 @@ fn written<'a>(
 ) -> Drawing
     requires { ⌜ Ready (lenOf (style .measure)) (marksIn (style .marks)) (style .given) (now standin) (now table) (now titles) (size .width) (size .height) nodes (now column) (now lines) (now longest) (now cx) (now xs) ncols (now cy) (now ys) nrows ⌝ }
     requires { ⌜ (length (now row) ≡ size .width) × Lent (lenOf (style .measure)) (marksIn (style .marks)) (planShown (style .given) (now standin) (now table) (now titles)) (size .width) false (length (now out)) ⌝ }
+    requires { ⌜ (size .width * size .height ≤ 1048576) × Level (marksIn (style .marks)) ⌝ }
     ensures { λ r. ⌜ Written (text (lenOf (style .measure)) (marksIn (style .marks)) (planShown (style .given) (now (standin .entry)) (now (table .entry)) (now (titles .entry)))) (now (out .entry)) (size .width) (size .height) (untitled (planOf (now (table .entry)) (now (titles .entry)))) r (now (out .exit)) ⌝ }
     ensures { λ _. ⌜ now (row .exit) ≡ lastRow (lenOf (style .measure)) (marksIn (style .marks)) (planShown (style .given) (now (standin .entry)) (now (table .entry)) (now (titles .entry))) ⌝ }
 {
@@ -218,7 +244,7 @@ fn sized<'a, 'b>(
     size: Size,
     out: &mut [u8],
 ) -> Drawing
-    requires { ⌜ Showable (style .given) (now standin) (now table) (now titles) × (nodes ≡ count (now table)) × (0 < nodes) × Lawful (lenOf (style .measure)) (marksIn (style .marks)) ⌝ }
+    requires { ⌜ Showable (style .given) (now standin) (now table) (now titles) × (nodes ≡ count (now table)) × (0 < nodes) × Lawful (lenOf (style .measure)) (marksIn (style .marks)) × Level (marksIn (style .marks)) ⌝ }
     requires { ⌜ Measured (lenOf (style .measure)) (now table) (planShown (style .given) (now standin) (now table) (now titles)) (now column) (now lines) (now longest) ⌝ }
     requires { ⌜ Laid (lenOf (style .measure)) (view (planShown (style .given) (now standin) (now table) (now titles))) (now cx) ncols (now cy) (now ys) nrows × Sized (lenOf (style .measure)) (view (planShown (style .given) (now standin) (now table) (now titles))) size ⌝ }
     requires { ⌜ ((j : ℕ) → j < ncols → getD (now xs) j 0 ≡ columnOffset (lenOf (style .measure)) (view (planShown (style .given) (now standin) (now table) (now titles))) j) ⌝ }
@@ -269,7 +295,7 @@ fn measured<'a>(
     ncols: u32,
     out: &mut [u8],
 ) -> Drawing
-    requires { ⌜ Showable (style .given) (now standin) (now table) (now titles) × (nodes ≡ count (now table)) × (0 < nodes) × Lawful (lenOf (style .measure)) (marksIn (style .marks)) ⌝ }
+    requires { ⌜ Showable (style .given) (now standin) (now table) (now titles) × (nodes ≡ count (now table)) × (0 < nodes) × Lawful (lenOf (style .measure)) (marksIn (style .marks)) × Level (marksIn (style .marks)) ⌝ }
     requires { ⌜ Measured (lenOf (style .measure)) (now table) (planShown (style .given) (now standin) (now table) (now titles)) (now column) (now lines) (now longest) ⌝ }
     requires { ⌜ ncols ≡ columnsOf (planOf (now table) []) ⌝ }
     ensures { λ r. ⌜ Rowed (lenOf (style .measure)) (marksIn (style .marks)) (planShown (style .given) (now (standin .entry)) (now (table .entry)) (now (titles .entry)))
@@ -315,7 +341,7 @@ fn drawn<'a>(
     standin: &'a [u8],
     out: &mut [u8],
 ) -> Drawing
-    requires { ⌜ Showable (style .given) (now standin) (now table) (now titles) × (0 < count (now table)) × Lawful (lenOf (style .measure)) (marksIn (style .marks)) ⌝ }
+    requires { ⌜ Showable (style .given) (now standin) (now table) (now titles) × (0 < count (now table)) × Lawful (lenOf (style .measure)) (marksIn (style .marks)) × Level (marksIn (style .marks)) ⌝ }
     ensures { λ r. ⌜ Rowed (lenOf (style .measure)) (marksIn (style .marks)) (planShown (style .given) (now (standin .entry)) (now (table .entry)) (now (titles .entry)))
         (untitled (planOf (now (table .entry)) (now (titles .entry)))) (now (row .entry)) (now (out .entry)) r (now (row .exit)) (now (out .exit)) ⌝ }
 {

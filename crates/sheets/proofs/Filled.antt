@@ -7,7 +7,7 @@ use lib.ListN.{length}
 use Rattle.rules.specs.declared.Answer.{Answer}
 use Rattle.rules.specs.declared.Drawing.{Drawing}
 use Rattle.rules.proofs.Lists.{laid-sets}
-use Rattle.canvas_text.specs.Emit.{Needed}
+use Rattle.size_laws.specs.Needed.{Needed}
 use Rattle.tree_format.specs.Drawn.{nothing, Written}
 use Rattle.sheets.specs.Puts.{Puts}
 

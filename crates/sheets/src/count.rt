@@ -4,7 +4,7 @@ ghost use mathlib.Core.Path.{_≡_};
 ghost use Prim.Native.Nat.{ℕ, _≤_};
 ghost use lib.ListN.{length};
 ghost use Rattle.rules.specs.Sheets.{parts};
-ghost use Rattle.canvas_text.specs.Emit.{Needed};
+ghost use Rattle.size_laws.specs.Needed.{Needed};
 ghost use Rattle.sheets.specs.Cut.{sheetsIn, Sound, Ready};
 use crate::walk;
 use crate::walk::Cut;

@@ -4,3 +4,4 @@ pub mod Boxes
 pub mod Whole
 pub mod Measures
 pub mod Plain
+pub mod Readied

@@ -4,6 +4,7 @@ use mathlib.Core.Bool.{true}
 use Rattle.rules.specs.Standin.{standinOf}
 use Rattle.levels.proofs.Refused.{said, all-showable, all-some}
 use Rattle.marks.proofs.Ends.{lawful-in}
+use Rattle.size_laws.proofs.Profiles.{level-of}
 use Rattle.rows.proofs.Ends.{passed, refused}
 use borrow.Author.Needs.{needs}
 use Rattle.rows.proofs.entry.draw_rows.Statement.{statement}
@@ -28,6 +29,7 @@ drawn-requires c κs =
       all-showable _ (a .profile) (a .given) (a .standin .now) (a .table .now) (a .titles .now) ok,
       all-some (a .profile) (standinOf (a .given) (a .standin .now)) (a .table .now) (a .titles .now) ok,
       rw (m .marks-of .ensures) (lawful-in (a .measure) (a .profile)),
+      level-of (a .profile) (m .marks-of .ensures),
     )
 
 same-length : tie.Need-same-length

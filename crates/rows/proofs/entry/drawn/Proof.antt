@@ -23,7 +23,7 @@ measured-requires c κs =
     let k = m .before .before .before in
     let s = k .before .before .before .before .before .before .before in
     unfold count in (
-      (s .pre .0, refl, s .pre .1, s .pre .2),
+      (s .pre .0, refl, s .pre .1, s .pre .2, s .pre .3),
       (record { columns-are = k .columns .ensures .1; lines-are = m .measures .ensures .0; longest-are = m .measures .ensures .1 }, k .columns .ensures .0),
     )
 

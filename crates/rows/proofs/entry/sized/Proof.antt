@@ -63,7 +63,7 @@ written-requires c κs =
     let s = r .before .before .before .before .before .before in
     let g = s .pre .0 in
     let q = ready (g .3) (len-most (s .args .style .measure)) (g .0) (g .1) (g .2) (s .pre .1 .0) (s .pre .1 .1 .0 .0) (s .pre .1 .1 .0 .1) (s .pre .1 .1 .1) in
-    (q, (omega (arith, length-take (w .wide .result) (s .args .row .now), t .if2 .left, w .wide .ensures), lent q (omega (arith, r .area .ensures, w .before .if1 .left)) _))
+    (q, ((omega (arith, length-take (w .wide .result) (s .args .row .now), t .if2 .left, w .wide .ensures), lent q (omega (arith, r .area .ensures, w .before .if1 .left)) _), (omega (arith, r .area .ensures, w .before .if1 .left), g .4)))
 
 same-length : tie.Need-same-length
 same-length c = search needs

@@ -37,7 +37,7 @@ stored-requires c κs =
     let k = t .before .before .before .before .before in
     let s = k .before .before .before .before .before .before .before .before in
     let l = k .counted .kept .1 .1 .1 .1 .1 .1 .1 .1 .1 .1 .1 .1 .1 .1 .1 .1 .0 in
-    (s .pre .0, (k .counted .kept .0 ∙ s .pre .1 .0, lent-bytes (s .pre .0) (s .pre .1 .1) (omega (arith, l, k .counted .ensures .0 .fits (omega (arith, l, t .if1 .left))))))
+    (s .pre .0, (k .counted .kept .0 ∙ s .pre .1 .0 .0, lent-bytes (s .pre .0) (s .pre .1 .0 .1) (omega (arith, l, k .counted .ensures .0 .fits (omega (arith, l, t .if1 .left))))))
 
 same-length-3 : tie.Need-same-length-3
 same-length-3 c = search needs
