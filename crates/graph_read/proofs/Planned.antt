@@ -14,8 +14,7 @@ use Rattle.rules.specs.Levels.{Cell, inColumn}
 use Rattle.rules.proofs.Candidate.{from}
 use Rattle.rules.proofs.Keeps.{kept-mem}
 use Rattle.rules.proofs.Text.{each-same}
-use Rattle.marks.proofs.Points.{mem-from}
-use Rattle.marks.proofs.Reading.{getD-mem}
+use Rattle.marks.proofs.Points.{mem-from, getD-mem}
 use Rattle.marks.proofs.Walks.{map-same, map-getD}
 use Rattle.delivery.proofs.Stored.{stored-all}
 use Rattle.put.specs.Put.{Put}

@@ -10,8 +10,7 @@ use lib.Dec.{leb, ltb}
 use borrow.Author.Tests.{ne-eqb, lt-ltb, leb-true, ltb-true}
 use Rattle.rules.specs.Base.{pick, keep}
 use Rattle.rules.specs.Levels.{Cell}
-use Rattle.marks.specs.Plan.{between, nextOr}
-use Rattle.marks.specs.Joint.{atColumn, joint}
+use Rattle.marks.specs.Joint.{between, nextOr, atColumn, joint}
 use Rattle.marks.proofs.Points.{both}
 use Rattle.marks.proofs.Places.{row, column}
 use Rattle.marks.proofs.Plans.{Rising, key}

@@ -14,14 +14,13 @@ use Rattle.rules.specs.Drawing as D
 use Rattle.rules.specs.Base.{pick}
 use Rattle.rules.specs.Levels.{Cell, View, nextColumn, children}
 use Rattle.rules.specs.Measures.{width, rowOffset, columnOffset}
-use Rattle.rules.specs.Drawing.{Marks, boxTop, lineOf, bendRow}
+use Rattle.rules.specs.Drawing.{Marks, boxTop, lineOf, bendRow, picture}
 use Rattle.rules.proofs.Columns.{offset-after}
 use Rattle.marks.specs.Lawful.{Lawful}
 use Rattle.marks.specs.Joint.{Joint, atColumn, beyond, barMark, bendMark, headMark}
 use Rattle.marks.proofs.Places.{Proper, placed, row, column}
 use Rattle.marks.proofs.Plans.{Rising}
 use Rattle.marks.proofs.Lines.{above, same-line}
-use Rattle.marks.proofs.Facts.{painted}
 use Rattle.marks.proofs.Running.{beyond-none}
 use Rattle.marks.proofs.JointMarks.{bar-before, bar-at, bar-past, bar-on, root-at, root-next, root-past}
 use Rattle.marks.proofs.Keystone.{key-none, key-head, key-bend, key-under}
@@ -64,12 +63,12 @@ module _ (len : List ℕ → ℕ) (marks : Marks) (ok : Lawful len marks) (v : V
 
       -- ---- the bend row
       bend-is : (j x : ℕ) → P .column ≤ j → j < nextColumn v (P .row) (P .column) → columnOffset len v j ≤ x → x < columnOffset len v j + width len v j
-          → painted len marks v x (bendRow v (P .row)) ≡ bendMark marks (jointUnder P j) x (M.cx len v j - 1) 32
+          → picture len marks v x (bendRow v (P .row)) ≡ bendMark marks (jointUnder P j) x (M.cx len v j - 1) 32
       bend-is j x h g a b =
           rw (← joint-here len marks ok v laid P m j h g)
           (key-bend len marks v pv ri few ok (P .row) j x (bendRow v (P .row)) a b (unfold D.bendRow in omega arith) (unfold D.bendRow in omega arith) (M.cx len v j - 1) (middle j) rows-below refl)
 
-      pub bend-straight : c .column ≡ P .column → painted len marks v (lineOf len v P) (bendRow v (P .row)) ≡ │
+      pub bend-straight : c .column ≡ P .column → picture len marks v (lineOf len v P) (bendRow v (P .row)) ≡ │
       unfolding bendMark pick
       bend-straight e =
           let o = placed len marks v pv P m in
@@ -78,7 +77,7 @@ module _ (len : List ℕ → ℕ) (marks : Marks) (ok : Lawful len marks) (v : V
           (root-at len marks (lineOf len v P) (M.cx len v (P .column) - 1) _ _ 32 (omega (arith, stem)) ∙ rw (at-some (P .column) (children v (P .row) (P .column)) in-kids e))
 
       pub bend-first : P .column < c .column → ((d : Cell) → Child v (P .row) (P .column) d → d .column ≡ P .column → ⊥)
-          → painted len marks v (lineOf len v P) (bendRow v (P .row)) ≡ ╰
+          → picture len marks v (lineOf len v P) (bendRow v (P .row)) ≡ ╰
       unfolding bendMark pick
       bend-first h f =
           let o = placed len marks v pv P m in
@@ -92,7 +91,7 @@ module _ (len : List ℕ → ℕ) (marks : Marks) (ok : Lawful len marks) (v : V
           go false z = refl
 
       pub bend-second : P .column < c .column → (d : Cell) → Child v (P .row) (P .column) d → d .column ≡ P .column
-          → painted len marks v (lineOf len v P + 1) (bendRow v (P .row)) ≡ ╰
+          → picture len marks v (lineOf len v P + 1) (bendRow v (P .row)) ≡ ╰
       unfolding bendMark pick
       bend-second h d q e =
           let o = placed len marks v pv P m in
@@ -103,7 +102,7 @@ module _ (len : List ℕ → ℕ) (marks : Marks) (ok : Lawful len marks) (v : V
 
       -- from there to the child
       pub bend-bar : (x : ℕ) → lineOf len v P < x → x < lineOf len v c → (x ≡ lineOf len v P + 1 → (d : Cell) → Child v (P .row) (P .column) d → d .column ≡ P .column → ⊥)
-          → (painted len marks v x (bendRow v (P .row)) ≡ ─) ⊎ (painted len marks v x (bendRow v (P .row)) ≡ ┬)
+          → (picture len marks v x (bendRow v (P .row)) ≡ ─) ⊎ (picture len marks v x (bendRow v (P .row)) ≡ ┬)
       bend-bar x a b f =
           let o = placed len marks v pv P m in
           let o′ = placed len marks v pv c (k .cell) in
@@ -156,25 +155,25 @@ module _ (len : List ℕ → ℕ) (marks : Marks) (ok : Lawful len marks) (v : V
                   ]
 
       -- over the child
-      pub bend-turn : P .column < c .column → (painted len marks v (lineOf len v c) (bendRow v (P .row)) ≡ ┬) ⊎ (painted len marks v (lineOf len v c) (bendRow v (P .row)) ≡ ╮)
+      pub bend-turn : P .column < c .column → (picture len marks v (lineOf len v c) (bendRow v (P .row)) ≡ ┬) ⊎ (picture len marks v (lineOf len v c) (bendRow v (P .row)) ≡ ╮)
       unfolding bendMark pick
       bend-turn h =
           let o = placed len marks v pv c (k .cell) in
-          let e : painted len marks v (lineOf len v c) (bendRow v (P .row)) ≡ pick (beyond (c .column) (children v (P .row) (P .column))) ┬ ╮ =
+          let e : picture len marks v (lineOf len v c) (bendRow v (P .row)) ≡ pick (beyond (c .column) (children v (P .row) (P .column))) ┬ ╮ =
           bend-is (c .column) (lineOf len v c) (k .from-parent) (k .before-next) (omega arith) (omega arith)
           ∙ rw (ne-eqb (P .column) (c .column) (λ z. omega arith), at-some (c .column) (children v (P .row) (P .column)) in-kids refl)
           (bar-at len marks (lineOf len v c) (M.cx len v (c .column) - 1) _ 32 (omega arith)) in
           go (beyond (c .column) (children v (P .row) (P .column))) e
         where
-          go : (b : Bool) → painted len marks v (lineOf len v c) (bendRow v (P .row)) ≡ pick b ┬ ╮
-              → (painted len marks v (lineOf len v c) (bendRow v (P .row)) ≡ ┬) ⊎ (painted len marks v (lineOf len v c) (bendRow v (P .row)) ≡ ╮)
+          go : (b : Bool) → picture len marks v (lineOf len v c) (bendRow v (P .row)) ≡ pick b ┬ ╮
+              → (picture len marks v (lineOf len v c) (bendRow v (P .row)) ≡ ┬) ⊎ (picture len marks v (lineOf len v c) (bendRow v (P .row)) ≡ ╮)
           go true e = inl e
           go false e = inr e
 
       -- nothing stands over the bend row, right of where it begins, up to the next parent's column
       pub over-bend : (x : ℕ) → lineOf len v P < x → x < columnOffset len v (nextColumn v (P .row) (P .column))
           → (x ≡ lineOf len v P + 1 → (d : Cell) → Child v (P .row) (P .column) d → d .column ≡ P .column → ⊥)
-          → painted len marks v x (bendRow v (P .row) - 1) ≡ 32
+          → picture len marks v x (bendRow v (P .row) - 1) ≡ 32
       unfolding D.bendRow
       over-bend x a b f =
           let o = placed len marks v pv P m in
@@ -196,7 +195,7 @@ module _ (len : List ℕ → ℕ) (marks : Marks) (ok : Lawful len marks) (v : V
         pub e : ℕ
         pub further : lineOf len v c < e
         pub within : e + 1 < columnOffset len v (nextColumn v (P .row) (P .column))
-        pub blank : painted len marks v e (bendRow v (P .row)) ≡ 32
+        pub blank : picture len marks v e (bendRow v (P .row)) ≡ 32
 
       pub bend-over : P .column < c .column → Over
       unfolding bendMark pick
@@ -221,7 +220,7 @@ module _ (len : List ℕ → ℕ) (marks : Marks) (ok : Lawful len marks) (v : V
           }
 
       -- ---- down to the child
-      pub head-line : (y : ℕ) → bendRow v (P .row) < y → y ≤ boxTop v c → painted len marks v (lineOf len v c) y ≡ pick (eqb y (boxTop v c)) ┴ │
+      pub head-line : (y : ℕ) → bendRow v (P .row) < y → y ≤ boxTop v c → picture len marks v (lineOf len v c) y ≡ pick (eqb y (boxTop v c)) ┴ │
       unfolding headMark pick D.bendRow
       head-line y a b =
           let o = placed len marks v pv c (k .cell) in

@@ -19,10 +19,8 @@ use Rattle.rules.specs.Drawing.{Marks, picture, boxLeft, boxTop, boxBottom, lin
 use Rattle.rules.proofs.Columns.{offset-after}
 use Rattle.marks.specs.Lawful.{Lawful}
 use Rattle.marks.specs.Joint.{atColumn}
-use Rattle.marks.proofs.Facts.{painted}
 use Rattle.marks.proofs.Places.{placed}
 use Rattle.marks.proofs.Lines.{under, above, same-line}
-use Rattle.marks.proofs.Wired.{picture-same}
 use Rattle.one_parent.specs.Parent.{parentOf, AllTitled, cellOf}
 use Rattle.one_parent.specs.Walk.{up, left, arrived, On, closes, steps, walk}
 use Rattle.one_parent.specs.Owner.{connector, Owns}
@@ -38,10 +36,6 @@ use Rattle.one_parent.proofs.Bend.{bend-straight, bend-first, bend-seco
 
 module _ (len : List ℕ → ℕ) (marks : Marks) (ok : Lawful len marks) {p : List Node} (t : AllTitled p) where
   open Marks marks using (─, │, ╮, ╰, ╯, ┬, ┴)
-
-  -- the rules' picture is the one that crate marks' laws are about
-  pub seen : (x y : ℕ) {k : ℕ} → painted len marks (view p) x y ≡ k → picture len marks (view p) x y ≡ k
-  seen x y e = let l = laid t in picture-same len marks (view p) (l .proper-view) (l .rising-view) (l .few-rows) x y ∙ e
 
   -- a parent P has a child in its own column, or none
   pub straight? : (P : Cell) → ((d : Cell) × Child (view p) (P .row) (P .column) d × (d .column ≡ P .column)) ⊎ ((d : Cell) → Child (view p) (P .row) (P .column) d → d .column ≡ P .column → ⊥)
@@ -91,14 +85,14 @@ module _ (len : List ℕ → ℕ) (marks : Marks) (ok : Lawful len marks) {p : L
       pub along : (n : ℕ) → On Q (steps marks at w n (up (lineOf len (view p) c) (boxTop (view p) c)))
 
     -- all that the walk looks at is on the canvas: before the next parent's column, and not under c's top border
-    shown : (x y : ℕ) {n : ℕ} → x + 1 < E → y ≤ boxTop (view p) c → painted len marks (view p) x y ≡ n → at x y ≡ n
+    shown : (x y : ℕ) {n : ℕ} → x + 1 < E → y ≤ boxTop (view p) c → picture len marks (view p) x y ≡ n → at x y ≡ n
     shown x y f g e =
         let o = placed len marks (view p) (laid t .proper-view) c (k .cell) in
         sheet .point x y (omega (arith, columns-within len marks t (nextColumn (view p) (P .row) (P .column)) (next-most (view p) (P .row) (P .column)))) (omega (arith, cell-within len marks t c (k .cell)))
-        ∙ seen x y e
+        ∙ e
 
-    shown-or : (x y : ℕ) {n o : ℕ} → x + 1 < E → y ≤ boxTop (view p) c → (painted len marks (view p) x y ≡ n) ⊎ (painted len marks (view p) x y ≡ o) → (at x y ≡ n) ⊎ (at x y ≡ o)
-    shown-or x y {n} {o} f g e = ⊎-elim (λ (z : painted len marks (view p) x y ≡ n). inl (shown x y f g z)) (λ (z : painted len marks (view p) x y ≡ o). inr (shown x y f g z)) e
+    shown-or : (x y : ℕ) {n o : ℕ} → x + 1 < E → y ≤ boxTop (view p) c → (picture len marks (view p) x y ≡ n) ⊎ (picture len marks (view p) x y ≡ o) → (at x y ≡ n) ⊎ (at x y ≡ o)
+    shown-or x y {n} {o} f g e = ⊎-elim (λ (z : picture len marks (view p) x y ≡ n). inl (shown x y f g z)) (λ (z : picture len marks (view p) x y ≡ o). inr (shown x y f g z)) e
 
     -- P's column and c's end before it
     P-before : columnOffset len (view p) (P .column) + width len (view p) (P .column) ≤ E

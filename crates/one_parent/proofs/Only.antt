@@ -31,7 +31,6 @@ use Rattle.one_parent.proofs.Parents.{Child, next-least, one-parent}
 use Rattle.one_parent.proofs.Boxes.{boxes-apart}
 use Rattle.one_parent.proofs.Foot.{foot-line, foot-next}
 use Rattle.one_parent.proofs.Bend.{head-line}
-use Rattle.one_parent.proofs.Leads.{seen}
 use Rattle.one_parent.proofs.Reach.{Reach, stem, foot, bar, head, axis-at, row-index-at, column-index-at, box-at, connector-at}
 
 module _ (len : List ℕ → ℕ) (marks : Marks) (ok : Lawful len marks) {p : List Node} (t : AllTitled p) where
@@ -180,7 +179,7 @@ module _ (len : List ℕ → ℕ) (marks : Marks) (ok : Lawful len marks) {p : L
         let L = laid t in
         let s = above len marks v pv (depthAt p l) P n refl in
         rw (a, ← e)
-        (seen len marks ok t (lineOf len v P) (boxBottom v P) (foot-line len marks ok v L P n c q (boxBottom v P) (omega arith) (omega arith))
+        (foot-line len marks ok v L P n c q (boxBottom v P) (omega arith) (omega arith)
         ∙ rw (eq-eqb (boxBottom v P) (boxBottom v P) refl))
 
     next-mark : (c d : Cell) → Child v (depthAt p l) (columnAt p l) c → columnAt p l < c .column → Child v (depthAt p l) (columnAt p l) d → d .column ≡ columnAt p l
@@ -190,7 +189,7 @@ module _ (len : List ℕ → ℕ) (marks : Marks) (ok : Lawful len marks) {p : L
         let L = laid t in
         let s = above len marks v pv (depthAt p l) P n refl in
         rw (a, ← e)
-        (seen len marks ok t (lineOf len v P + 1) (boxBottom v P) (foot-next len marks ok v L P n c q d r z f (boxBottom v P) (omega arith) (omega arith))
+        (foot-next len marks ok v L P n c q d r z f (boxBottom v P) (omega arith) (omega arith)
         ∙ rw (eq-eqb (boxBottom v P) (boxBottom v P) refl))
 
     head-mark : (c : Cell) → Child v (depthAt p l) (columnAt p l) c → x ≡ lineOf len v c → y ≡ boxTop v c → picture len marks v x y ≡ ┴
@@ -199,7 +198,7 @@ module _ (len : List ℕ → ℕ) (marks : Marks) (ok : Lawful len marks) {p : L
         let L = laid t in
         let u = under len marks v pv (depthAt p l) c (q .cell) (q .below) in
         rw (a, e)
-        (seen len marks ok t (lineOf len v c) (boxTop v c) (head-line len marks ok v L P n c q (boxTop v c) (omega arith) (omega arith))
+        (head-line len marks ok v L P n c q (boxTop v c) (omega arith) (omega arith)
         ∙ rw (eq-eqb (boxTop v c) (boxTop v c) refl))
 
     shared : Reach len marks v P x y → Shared len marks p x y (box k) (connector l)

@@ -20,8 +20,9 @@ use Rattle.rules.proofs.Keeps.{kept-mem}
 use Rattle.rules.proofs.Firsts.{first-most, first-holds, first-before}
 use Rattle.marks.proofs.Places.{mem-inRow}
 use Rattle.marks.proofs.Wired.{any-some}
+use Rattle.marks.proofs.Plans.{columns-order, columns-stay}
 use Rattle.one_parent.specs.Parent.{last, parentOf, AllTitled, cellOf}
-use Rattle.one_parent.proofs.Nodes.{laid, cell-in, cell-node, columns-order, columns-stay, same-node}
+use Rattle.one_parent.proofs.Nodes.{laid, cell-in, cell-node, same-node}
 
 -- ---- the last place of a test
 pub last-is : (t : ℕ → Bool) (n l : ℕ) → l < n → t l ≡ true → ((m : ℕ) → l < m → m < n → t m ≡ false) → last t n ≡ l

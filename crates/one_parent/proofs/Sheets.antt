@@ -19,11 +19,9 @@ use Rattle.rules.proofs.Candidate.{from}
 use Rattle.rules.proofs.Lists.{length-each, each-at}
 use Rattle.marks.specs.Lawful.{Lawful}
 use Rattle.marks.proofs.Cells.{rows-length, rows-at, row-within}
-use Rattle.marks.proofs.Same.{each-from}
-use Rattle.marks.proofs.Text.{length-from, text-of-same, text-shown}
+use Rattle.marks.proofs.Order.{each-from}
+use Rattle.marks.proofs.Text.{length-from, text-shown}
 use Rattle.marks.proofs.Picture.{titles-held}
-use Rattle.marks.proofs.Wired.{picture-same}
-use Rattle.marks.specs.Picture as Pic
 use Rattle.one_parent.specs.Parent.{AllTitled}
 use Rattle.one_parent.specs.OneParent.{Sheet}
 use Rattle.one_parent.specs.Drawn.{onCanvas, onPaper}
@@ -71,11 +69,4 @@ module _ (len : List ℕ → ℕ) (marks : Marks) (p : List Node) where
   pub on-text : Lawful len marks → AllTitled p → ((n : Node) → List·Memᴰ n p → valid (n .title) ≡ true)
       → Sheet len marks p (onPaper (text len marks p))
   unfolding D.text C.at
-  on-text ok t f =
-      let l = laid t in
-      let e : text len marks p ≡ Pic.textOf len marks (view p) = text-of-same len marks (view p) (l .proper-view) (l .rising-view) (l .few-rows) in
-      record {
-        point = λ x y a b.
-            rw e (text-shown len marks ok (view p) (l .proper-view) (titles-held len marks p f) .point x y a b)
-            ∙ sym (picture-same len marks (view p) (l .proper-view) (l .rising-view) (l .few-rows) x y);
-      }
+  on-text ok t f = record { point = text-shown len marks ok (view p) (laid t .proper-view) (titles-held len marks p f) .point }
