@@ -28,7 +28,7 @@ use Rattle.marks.proofs.Plans.{Rising}
 use Rattle.marks.proofs.Order.{each-from, concat-same, table-order}
 use Rattle.marks.proofs.Back.{nodes-back, columns-few}
 use Rattle.marks.proofs.Picture.{laid}
-use Rattle.graphs.proofs.Concats.{concat-each, concat-concat, mem-each}
+use Rattle.graphs.proofs.Concats.{concat-each, concat-concat, mem-each, singles}
 use Rattle.graph_plan.specs.Seen.{seenIn, cellsSeen, inOrder, nodeOf, planSeen, readsGraph}
 use Rattle.graph_plan.proofs.Entries.{indent, clear, clear-node, clear-edge, node-seen, edge-seen}
 use Rattle.graph_plan.proofs.Lines.{graph-lines, seen-lines}
@@ -122,11 +122,6 @@ no-edge c (k ∷ ks) = rw (edge-seen c k) (no-edge c ks)
 seen-cell : (v : View) (c : Cell) → c .row < 256 → c .column < 256 → concat (λ e. seenIn (indent e)) (entries fenced v c) ≡ c ∷ []
 unfolding entries concat
 seen-cell v c h g = rw (node-seen c h g, no-edge c (reverse (children v (c .row) (c .column))))
-
-singles : (cs : List Cell) → concat (λ c. c ∷ []) cs ≡ cs
-unfolding concat
-singles [] = refl
-singles (c ∷ cs) = ap (λ (l : List Cell). c ∷ l) (singles cs)
 
 seen-row : (v : View) → Placed v → (i : ℕ) → concat (λ e. seenIn (indent e)) (concat (entries fenced v) (inRow (v .cells) i)) ≡ inRow (v .cells) i
 seen-row v w i =

@@ -80,7 +80,7 @@ module _ (len : List ℕ → ℕ) (marks : Marks) (ok : Lawful len marks) (p : L
 
   -- every point holds a code point that a text can hold,
   pub held-at : ((n : Node) → List·Memᴰ n p → valid (n .title) ≡ true) → (x y : ℕ) → Held (picture len marks (view p) x y)
-  held-at h x y = held len marks ok (view p) (laid len marks p w .proper-view) (titles-held len marks p h) x y
+  held-at h = held len marks ok (view p) (titles-held len marks p h)
 
   -- and none holds 0A
   pub no-0A : ((n : Node) → List·Memᴰ n p → valid (n .title) ≡ true) → (x y : ℕ) → picture len marks (view p) x y ≡ 0x0A → ⊥

@@ -22,8 +22,8 @@ use Rattle.rules.proofs.Columns.{offset-after}
 use Rattle.marks.specs.Lawful.{Lawful}
 use Rattle.marks.specs.Joint.{nextOr, between, Joint, joint, jointOf, atColumn, beyond, footMark}
 use Rattle.marks.proofs.Places.{Proper, placed, row, column}
-use Rattle.marks.proofs.Plans.{Rising}
-use Rattle.marks.proofs.Chains.{Chain, chain-above}
+use Rattle.marks.proofs.Plans.{Rising, columnOf, rises-above}
+use Rattle.marks.proofs.Chains.{Chain, at-some, at-mem, beyond-some}
 use Rattle.marks.proofs.Boxes.{box-out, box-border, frame-bottom}
 use Rattle.marks.proofs.Lines.{above}
 use Rattle.marks.proofs.Facts.{on-box, right-border}
@@ -33,30 +33,6 @@ use Rattle.marks.proofs.Wired.{Rest, rest-next, next-same}
 use Rattle.marks.proofs.Picture.{Laid}
 use Rattle.marks.proofs.Ends.{find-column}
 use Rattle.one_parent.proofs.Parents.{Child, child, child-in, next-least}
-
--- ---- the two tests of a joint
-pub at-some : (j : ℕ) (cs : List Cell) {c : Cell} → List·Memᴰ c cs → c .column ≡ j → atColumn j cs ≡ true
-unfolding atColumn
-at-some j [] m e = absurd (List·Memᴰ·not-nil m)
-at-some j (b ∷ cs) {c} m e =
-    ⊎-elim (λ (q : c ≡ b). rw (eq-eqb (b .column) j (ap (λ (d : Cell). d .column) (sym q) ∙ e))) (λ (n : List·Memᴰ c cs). rw (at-some j cs n e) (or-true (eqb (b .column) j)))
-    (List·Memᴰ·cases-cons m)
-
-pub at-mem : (j : ℕ) (cs : List Cell) → atColumn j cs ≡ true → (c : Cell) × List·Memᴰ c cs × (c .column ≡ j)
-unfolding atColumn
-at-mem j [] e = absurd (false≢true e)
-at-mem j (b ∷ cs) e =
-    elim (ℕ-discrete (b .column) j) [
-      | yes q ↦ (b, List·Memᴰ·head refl, q)
-      | no q ↦ (let w = at-mem j cs (rw (ne-eqb (b .column) j q) at e) in (w .0, List·Memᴰ·tail (w .1), w .2))
-    ]
-
-pub beyond-some : (j : ℕ) (cs : List Cell) {c : Cell} → List·Memᴰ c cs → j < c .column → beyond j cs ≡ true
-unfolding beyond
-beyond-some j [] m h = absurd (List·Memᴰ·not-nil m)
-beyond-some j (b ∷ cs) {c} m h =
-    ⊎-elim (λ (q : c ≡ b). rw (lt-ltb j (b .column) (omega (arith, ap (λ (d : Cell). d .column) q)))) (λ (n : List·Memᴰ c cs). rw (beyond-some j cs n h) (or-true (ltb j (b .column))))
-    (List·Memᴰ·cases-cons m)
 
 -- what is equal to one of two
 pub by-either : {q r m n : ℕ} → q ≡ r → (r ≡ m) ⊎ (r ≡ n) → (q ≡ m) ⊎ (q ≡ n)
@@ -104,14 +80,14 @@ module _ (len : List ℕ → ℕ) (marks : Marks) (ok : Lawful len marks) (v : V
       let b : j < nextOr (v .columns) ps = omega (arith, n) in
       rw (le-ltb j (q .column) a, lt-ltb j (nextOr (v .columns) ps) b, ← n, ← z)))
       (λ (z : List·Memᴰ P ps).
-      (let a = chain-above (suc (q .column)) ps (r′ .chain) z in
+      (let a = rises-above columnOf (suc (q .column)) ps (r′ .chain) z in
       let b : nextOr (v .columns) ps ≤ j = next-at-most ps (r′ .chain) z in
       rw (le-ltb j (q .column) (omega arith), le-ltb j (nextOr (v .columns) ps) b) (joint-in P j (suc (q .column)) h g ps r′ z)))
       (List·Memᴰ·cases-cons m)
     where
       next-at-most : (ps : List Cell) → Chain (suc (q .column)) ps → List·Memᴰ P ps → nextOr (v .columns) ps ≤ j
       next-at-most [] ch z = absurd (List·Memᴰ·not-nil z)
-      next-at-most (r ∷ rs) ch z = unfold nextOr in omega (arith, chain-above (r .column) (r ∷ rs) (omega arith, ch .1) z)
+      next-at-most (r ∷ rs) ch z = unfold nextOr in omega (arith, rises-above columnOf (r .column) (r ∷ rs) (omega arith, ch .1) z)
 
   module _ (P : Cell) (m : List·Memᴰ P (v .cells)) where
     pub joint-here : (j : ℕ) → P .column ≤ j → j < nextColumn v (P .row) (P .column) → jointOf v (P .row) j ≡ jointUnder P j

@@ -5,12 +5,10 @@ use Prim.Native.Nat.{ℕ, suc, _+_, _-_, _≤_, _<_}
 use native.Mathlib.Decide.{decLe}
 use native.Mathlib.Omega.{arith}
 use lib.ListN.{length}
-use borrow.Author.Tests.{ne-eqb}
-use Rattle.rules.specs.Base.{pick}
 use Rattle.rules.specs.Plan.{Node, nodeAt, depthAt}
 use Rattle.rules.specs.Levels.{Cell, columnAt, cellAt, view}
 use Rattle.marks.proofs.Points.{each-mem, mem-each}
-use Rattle.marks.proofs.Plans.{columns-stay}
+use Rattle.marks.proofs.Plans.{columns-stay, cell-there}
 use Rattle.marks.proofs.Picture.{Laid, laid-by}
 use Rattle.one_parent.specs.Parent.{AllTitled, cellOf}
 
@@ -28,8 +26,7 @@ module _ {p : List Node} (t : AllTitled p) where
 
   -- each node has its cell,
   pub cell-of : (k : ℕ) → k < length p → cellAt p k ≡ cellOf p k ∷ []
-  unfolding cellAt pick
-  cell-of k h = rw (ne-eqb (length (nodeAt p k .title)) 0 (λ e. omega (arith, t .titles k h)))
+  cell-of k h = cell-there p k (t .titles k h)
 
   pub cell-in : (k : ℕ) → k < length p → List·Memᴰ (cellOf p k) (view p .cells)
   unfolding view

@@ -201,8 +201,9 @@ module _ (len : List ℕ → ℕ) (marks : Marks) (ok : Lawful len marks) {p : L
         (head-line len marks ok v L P n c q (boxTop v c) (omega arith) (omega arith)
         ∙ rw (eq-eqb (boxTop v c) (boxTop v c) refl))
 
-    shared : Reach len marks v P x y → Shared len marks p x y (box k) (connector l)
-    shared (stem c q e a d f) =
+    -- on the line to a child in the parent's own column
+    by-stem : (c : Cell) → Child v (depthAt p l) (columnAt p l) c → c .column ≡ columnAt p l → x ≡ lineOf len v P → boxBottom v P ≤ y → y ≤ boxTop v c → Shared len marks p x y (box k) (connector l)
+    by-stem c q e a d f =
         let s = same-line len marks v pv c P e in
         elim (decLe (suc (depthAt p k)) (depthAt p l)) [
           | yes z ↦ absurd (not-above z d)
@@ -216,7 +217,12 @@ module _ (len : List ℕ → ℕ) (marks : Marks) (ok : Lawful len marks) {p : L
                     ]
               ]
         ]
-    shared (foot c q e a d f) =
+
+    -- on the parent's foot
+    by-foot : (c : Cell) → Child v (depthAt p l) (columnAt p l) c → columnAt p l < c .column
+        → (x ≡ lineOf len v P) ⊎ ((x ≡ lineOf len v P + 1) × ((s : Cell) × Child v (depthAt p l) (columnAt p l) s × (s .column ≡ columnAt p l)))
+        → boxBottom v P ≤ y → y ≤ bendRow v (depthAt p l) → Shared len marks p x y (box k) (connector l)
+    by-foot c q e a d f =
         elim (decLe (suc (depthAt p k)) (depthAt p l)) [
           | yes z ↦ absurd (not-above z d)
           | no z ↦
@@ -230,7 +236,10 @@ module _ (len : List ℕ → ℕ) (marks : Marks) (ok : Lawful len marks) {p : L
                     a
               ]
         ]
-    shared (bar c q e a d f) =
+
+    -- on its bend row there is no box
+    by-bar : (c : Cell) → Child v (depthAt p l) (columnAt p l) c → columnAt p l < c .column → lineOf len v P < x → x ≤ lineOf len v c → y ≡ bendRow v (depthAt p l) → Shared len marks p x y (box k) (connector l)
+    by-bar c q e a d f =
         let s = above len marks v pv (depthAt p l) P n refl in
         elim (decLe (suc (depthAt p l)) (depthAt p k)) [
           | yes z ↦ absurd (not-under-bend z (omega arith))
@@ -240,7 +249,10 @@ module _ (len : List ℕ → ℕ) (marks : Marks) (ok : Lawful len marks) {p : L
                 | no r ↦ absurd (not-above (omega arith) (omega arith))
               ]
         ]
-    shared (head c q e a d f) =
+
+    -- on the line to a child further right
+    by-head : (c : Cell) → Child v (depthAt p l) (columnAt p l) c → columnAt p l < c .column → x ≡ lineOf len v c → bendRow v (depthAt p l) < y → y ≤ boxTop v c → Shared len marks p x y (box k) (connector l)
+    by-head c q e a d f =
         let s = above len marks v pv (depthAt p l) P n refl in
         elim (decLe (suc (depthAt p l)) (depthAt p k)) [
           | yes z ↦
@@ -254,6 +266,12 @@ module _ (len : List ℕ → ℕ) (marks : Marks) (ok : Lawful len marks) {p : L
                 | no r ↦ absurd (not-above (omega arith) (omega arith))
               ]
         ]
+
+    shared : Reach len marks v P x y → Shared len marks p x y (box k) (connector l)
+    shared (stem c q e a d f) = by-stem c q e a d f
+    shared (foot c q e a d f) = by-foot c q e a d f
+    shared (bar c q e a d f) = by-bar c q e a d f
+    shared (head c q e a d f) = by-head c q e a d f
 
   -- ---- any two
   -- where a point is: 0 the head, 1 the axis, 2 the margin, 3 the field; and where an owner's points are
