@@ -1,24 +1,15 @@
 -- The nodes of a table without empty titles and the cells of its view are the same things, and the view is one that the laws of crate marks are about.
-use mathlib.Core.Path.{_≡_, refl, sym}
+use mathlib.Core.Path.{_≡_, refl}
 use mathlib.Core.List.{List, [], _∷_, List·Memᴰ, List·Memᴰ·head, List·Memᴰ·eq-of-singleton}
-use Prim.Native.Nat.{ℕ, suc, _+_, _-_, _≤_, _<_}
-use native.Mathlib.Decide.{decLe}
+use Prim.Native.Nat.{ℕ, suc, _+_, _≤_, _<_}
 use native.Mathlib.Omega.{arith}
 use lib.ListN.{length}
 use Rattle.rules.specs.Plan.{Node, nodeAt, depthAt}
-use Rattle.rules.specs.Levels.{Cell, columnAt, cellAt, view}
+use Rattle.rules.specs.Levels.{Cell, cellAt, view}
 use Rattle.marks.proofs.Points.{each-mem, mem-each}
-use Rattle.marks.proofs.Plans.{columns-stay, cell-there}
+use Rattle.marks.proofs.Plans.{cell-there}
 use Rattle.marks.proofs.Picture.{Laid, laid-by}
 use Rattle.one_parent.specs.Parent.{AllTitled, cellOf}
-
--- nodes of one row stand in different columns
-pub same-node : (p : List Node) (j k : ℕ) → depthAt p j ≡ depthAt p k → columnAt p j ≡ columnAt p k → j ≡ k
-same-node p j k e c =
-    elim (decLe j k) [
-      | yes h ↦ omega (arith, columns-stay p j k h (sym c))
-      | no h ↦ omega (arith, columns-stay p k j (omega arith) c)
-    ]
 
 module _ {p : List Node} (t : AllTitled p) where
   pub laid : Laid (view p)

@@ -22,11 +22,12 @@ use Rattle.marks.specs.Lawful.{Lawful}
 use Rattle.marks.proofs.Places.{Proper, placed, row, column, same-column}
 use Rattle.marks.proofs.Lines.{under, above, same-line}
 use Rattle.marks.proofs.Facts.{mid-row-one}
+use Rattle.explain.proofs.Titles.{one-place}
 use Rattle.one_parent.specs.Parent.{parentOf, AllTitled, cellOf}
 use Rattle.one_parent.specs.Owner.{Owner, axis, rowIndex, columnIndex, box, connector, Owns}
 use Rattle.one_parent.specs.OneParent as S
 use Rattle.one_parent.specs.OneParent.{InBox, Shared}
-use Rattle.one_parent.proofs.Nodes.{laid, cell-in, same-node}
+use Rattle.one_parent.proofs.Nodes.{laid, cell-in}
 use Rattle.one_parent.proofs.Parents.{Child, next-least, one-parent}
 use Rattle.one_parent.proofs.Boxes.{boxes-apart}
 use Rattle.one_parent.proofs.Foot.{foot-line, foot-next}
@@ -113,7 +114,7 @@ module _ (len : List ℕ → ℕ) (marks : Marks) (ok : Lawful len marks) {p : L
         | yes z ↦ absurd (above-other (cellOf p k) (cellOf p l) m n x y a b z)
         | no z ↦ elim (decLe (suc (depthAt p l)) (depthAt p k)) [ yes w ↦ absurd (above-other (cellOf p l) (cellOf p k) n m x y b a w) | no w ↦ omega arith ]
       ] in
-      same-node p k l e
+      one-place p k l e
       (elim (decLe (suc (columnAt p k)) (columnAt p l)) [
         | yes z ↦ absurd (left-of-other (cellOf p k) (cellOf p l) m n x y a b e z)
         | no z ↦ elim (decLe (suc (columnAt p l)) (columnAt p k)) [ yes w ↦ absurd (left-of-other (cellOf p l) (cellOf p k) n m x y b a (sym e) w) | no w ↦ omega arith ]
@@ -158,7 +159,7 @@ module _ (len : List ℕ → ℕ) (marks : Marks) (ok : Lawful len marks) {p : L
         → Shared len marks p x y (box k) (connector l)
     under-parent e a d f mark =
         let o = placed len marks v pv P n in
-        let z : k ≡ l = same-node p k l e (held (columnAt p l) (omega arith) (omega arith)) in
+        let z : k ≡ l = one-place p k l e (held (columnAt p l) (omega arith) (omega arith)) in
         let y-is : y ≡ boxBottom v P = omega (arith, b .to-bottom, ap (λ (q : ℕ). boxBottom v (cellOf p q)) z) in
         rw z (S.foot l a d y-is (mark (sym y-is)))
 
