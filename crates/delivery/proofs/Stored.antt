@@ -6,14 +6,10 @@ use native.Mathlib.Nat.{zero-add}
 use native.Mathlib.Numerals.{add-one}
 use native.Mathlib.Omega.{arith}
 use lib.ListN.{length, getD, set, take, length-take}
-use lib.Seq.{sets, sets-eq, take-suc, take-all}
+use lib.Seq.{sets, take-suc, take-all}
 use Rattle.rules.specs.Base.{laid, each}
-use Rattle.rules.proofs.Lists.{sets-append}
-use Rattle.delivery.proofs.Titles.{parts-more}
-
-pub stored-all : (l vs : List ℕ) → length vs ≤ length l → sets l 0 vs ≡ laid vs l
-unfolding laid
-stored-all l vs h = sets-eq vs l 0 (rw (zero-add (length vs)) h) ∙ rw (zero-add (length vs))
+use Rattle.rules.proofs.Lists.{sets-append, laid-sets}
+use Rattle.rules.proofs.Text.{each-next}
 
 -- one entry more of a list
 pub stored-next : (l vs m : List ℕ) (k : ℕ) → k < length vs → m ≡ sets l 0 (take k vs) → set m k (getD vs k 0) ≡ sets l 0 (take (k + 1) vs)
@@ -22,10 +18,10 @@ stored-next l vs m k h e =
     rw (add-one k, take-suc vs k 0 h) (sym (sets-append l 0 (take k vs) (getD vs k 0 ∷ []) ∙ rw (n, e)))
 
 pub stored-list : (l vs m : List ℕ) (k : ℕ) → length vs ≤ length l → length vs ≤ k → m ≡ sets l 0 (take k vs) → m ≡ laid vs l
-stored-list l vs m k h g e = e ∙ rw (take-all k vs g) (stored-all l vs h)
+stored-list l vs m k h g e = e ∙ rw (take-all k vs g) (laid-sets vs l h)
 
 -- one part more of parts that lie one after another
 pub stored-part : (f : ℕ → List ℕ) (l m r : List ℕ) (a k : ℕ) → a ≡ length (each f k) → m ≡ sets l 0 (each f k) → r ≡ sets m a (f k)
     → r ≡ sets l 0 (each f (k + 1))
 stored-part f l m r a k n e q =
-    q ∙ rw (e, n) (sym (ap (sets l 0) (parts-more f k) ∙ sets-append l 0 (each f k) (f k) ∙ rw (zero-add (length (each f k)))))
+    q ∙ rw (e, n) (sym (ap (sets l 0) (each-next f k) ∙ sets-append l 0 (each f k) (f k) ∙ rw (zero-add (length (each f k)))))

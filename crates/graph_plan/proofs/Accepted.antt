@@ -13,15 +13,10 @@ use Rattle.rules.specs.Numbers.{badDepth, badTitle, badUtf8}
 use Rattle.rules.specs.Reader.{tableOf, titlesOf}
 use Rattle.rules.specs.GraphReader.{writable}
 use Rattle.levels.specs.Accepted.{Accepted}
+use Rattle.marks.proofs.Plans.{node-mem}
 use Rattle.marks.proofs.Tests.{first-all}
 use Rattle.graph_plan.proofs.Back.{limits, Title, title-limits}
 use Rattle.levels.proofs.Tables.{length-table, count-table, start-table, size-table, titles-at, plan-table}
-
-pub node-mem : (p : List Node) (k : ℕ) → k < length p → List·Memᴰ (nodeAt p k) p
-unfolding nodeAt
-node-mem [] k h = absurd (not-suc-le-zero h)
-node-mem (n ∷ p) zero h = List·Memᴰ·head refl
-node-mem (n ∷ p) (suc k) h = List·Memᴰ·tail (node-mem p k (omega arith))
 
 module _ (p : List Node) (w : writable p ≡ true) where
   title-of : (k : ℕ) → k < length p → Title (nodeAt p k .title)

@@ -13,7 +13,7 @@ use Rattle.rules.specs.Base.{pick, keep, greatest, concat, each, every, first, 
 use Rattle.rules.specs.Utf8.{valid}
 use Rattle.rules.specs.Plan.{Node}
 use Rattle.rules.specs.Numbers.{badDepth}
-use Rattle.rules.specs.Levels.{Cell, View, rowsOf, columnsOf, view, inRow, inColumn, children}
+use Rattle.rules.specs.Levels.{Cell, View, rowsOf, view, inRow, inColumn, children}
 use Rattle.rules.specs.Drawing.{boxes}
 use Rattle.rules.specs.Graph.{fenced, node, edge, entries, graph}
 use Rattle.rules.specs.Reader.{plan, nothing}
@@ -24,13 +24,11 @@ use Rattle.rules.proofs.Text.{each-same}
 use Rattle.rules.proofs.Tests.{both}
 use Rattle.rules.proofs.Accepts.{same-true, same-refl}
 use Rattle.rules.proofs.Candidate.{from}
-use Rattle.marks.specs.Plan.{cells}
-use Rattle.marks.proofs.Plans.{Rising, leaves-few}
-use Rattle.marks.proofs.Order.{concat-same, table-order}
-use Rattle.marks.proofs.Same.{each-from, columns-same, cells-same}
-use Rattle.marks.proofs.Back.{nodes-back}
+use Rattle.marks.proofs.Plans.{Rising}
+use Rattle.marks.proofs.Order.{each-from, concat-same, table-order}
+use Rattle.marks.proofs.Back.{nodes-back, columns-few}
 use Rattle.marks.proofs.Picture.{laid}
-use Rattle.graphs.proofs.Concats.{concat-each, concat-concat, mem-each}
+use Rattle.graphs.proofs.Concats.{concat-each, concat-concat, mem-each, singles}
 use Rattle.graph_plan.specs.Seen.{seenIn, cellsSeen, inOrder, nodeOf, planSeen, readsGraph}
 use Rattle.graph_plan.proofs.Entries.{indent, clear, clear-node, clear-edge, node-seen, edge-seen}
 use Rattle.graph_plan.proofs.Lines.{graph-lines, seen-lines}
@@ -71,10 +69,6 @@ record Placed (v : View) : Type 0 where
   row-in : (c : Cell) → List·Memᴰ c (v .cells) → c .row < v .rows
   column-in : (c : Cell) → List·Memᴰ c (v .cells) → c .column < 256
 
-unfolded : (p : List Node) → view p .columns ≡ columnsOf p
-unfolding view
-unfolded p = refl
-
 placed : (p : List Node) → Limits p → Placed (view p)
 placed [] l = unfold view each rowsOf greatest in record {
   rising = tt;
@@ -88,7 +82,7 @@ placed (n ∷ ns) l =
       rising = w .rising-view;
       rows-few = w .few-rows;
       row-in = w .proper-view .row-in;
-      column-in = λ c m. omega (arith, w .proper-view .column-in c m, l .sized, unfolded (n ∷ ns), columns-same (n ∷ ns), leaves-few (n ∷ ns));
+      column-in = λ c m. omega (arith, w .proper-view .column-in c m, columns-few (n ∷ ns) (l .sized));
     }
 
 -- ---- the lines of its graph
@@ -129,11 +123,6 @@ seen-cell : (v : View) (c : Cell) → c .row < 256 → c .column < 256 → conca
 unfolding entries concat
 seen-cell v c h g = rw (node-seen c h g, no-edge c (reverse (children v (c .row) (c .column))))
 
-singles : (cs : List Cell) → concat (λ c. c ∷ []) cs ≡ cs
-unfolding concat
-singles [] = refl
-singles (c ∷ cs) = ap (λ (l : List Cell). c ∷ l) (singles cs)
-
 seen-row : (v : View) → Placed v → (i : ℕ) → concat (λ e. seenIn (indent e)) (concat (entries fenced v) (inRow (v .cells) i)) ≡ inRow (v .cells) i
 seen-row v w i =
     concat-concat (λ e. seenIn (indent e)) (entries fenced v) (inRow (v .cells) i)
@@ -167,10 +156,6 @@ order-back v w =
     ∙ each-from (λ j. concat (λ i. inColumn (inRow cs i) j) (from 0 (v .rows))) 256
     ∙ table-order 0 (v .rows) 256 cs (w .rows-few) (w .row-in) (w .column-in) (w .rising)
 
-pub nodes-of : (p : List Node) → ((n : Node) → List·Memᴰ n p → 1 ≤ length (n .title)) → map nodeOf (view p .cells) ≡ p
-unfolding view cells
-nodes-of p h = ap (map nodeOf) (cells-same p) ∙ nodes-back 0 p h
-
 -- THEOREM: the plan that is seen in a writable plan's graph is that plan
 pub back : (p : List Node) → writable p ≡ true → planSeen (graph fenced p) ≡ p
 unfolding planSeen
@@ -178,7 +163,7 @@ back p e =
     let l = limits p e in
     ap (λ (cs : List Cell). map nodeOf (inOrder cs)) (cells-seen p e)
     ∙ ap (map nodeOf) (order-back (view p) (placed p l))
-    ∙ nodes-of p (λ n m. title-limits (n .title) (l .titled n m) .some)
+    ∙ nodes-back p (λ n m. title-limits (n .title) (l .titled n m) .some)
 
 -- two writable plans with one fenced graph are one plan
 pub one-graph : (p q : List Node) (G : List ℕ) → Writes p G → Writes q G → p ≡ q

@@ -19,12 +19,13 @@ use Rattle.rules.proofs.Keeps.{kept-mem}
 use Rattle.rules.proofs.LinesValid.{valid-append}
 use Rattle.rules.proofs.Tests.{both}
 use Rattle.graphs.proofs.Concats.{mem-each}
+use Rattle.marks.proofs.Back.{nodes-back}
 use Rattle.graph_plan.specs.Seen.{nodeOf}
 use Rattle.graph_plan.proofs.ValidLabels.{label-valid}
 use Rattle.graph_plan.proofs.Parts.{Decimal, none, more, decimal}
 use Rattle.graph_plan.proofs.Entries.{indent, ending, node-line, edge-line}
 use Rattle.graph_plan.proofs.Lines.{opening, indented, ended, graph-ended}
-use Rattle.graph_plan.proofs.Back.{limits, title-limits, nodes-of, entriesOf, mem-concat}
+use Rattle.graph_plan.proofs.Back.{limits, title-limits, entriesOf, mem-concat}
 
 -- bytes below 80 are passed over
 low : List ℕ → Bool
@@ -117,5 +118,5 @@ graph-valid p w =
     let v = view p in
     let l = limits p w in
     let t : (c : Cell) → List·Memᴰ c (v .cells) → valid (c .title) ≡ true =
-    λ c m. title-limits (c .title) (l .titled (nodeOf c) (subst (λ (q : List Node). List·Memᴰ (nodeOf c) q) (nodes-of p (λ n m. title-limits (n .title) (l .titled n m) .some)) (Memᴰ·map nodeOf m))) .is-valid in
+    λ c m. title-limits (c .title) (l .titled (nodeOf c) (subst (λ (q : List Node). List·Memᴰ (nodeOf c) q) (nodes-back p (λ n m. title-limits (n .title) (l .titled n m) .some)) (Memᴰ·map nodeOf m))) .is-valid in
     ap valid (graph-ended (entriesOf v)) ∙ lines-joined (opening ∷ indented (entriesOf v)) (between (entriesOf v) (valid-entries v t))

@@ -8,16 +8,15 @@ use native.Mathlib.Omega.{arith}
 use lib.Dec.{eqb}
 use lib.ListN.{length, getD, take, drop, length-take}
 use lib.Seq.{take-at, getD-take}
+use Rattle.rules.proofs.Lists.{laid-sets}
 use Rattle.rules.specs.Base.{pick, keep, concat, each, laid}
 use Rattle.rules.specs.Lines.{linesOf}
 use Rattle.rules.specs.Levels.{Cell, inColumn}
 use Rattle.rules.proofs.Candidate.{from}
 use Rattle.rules.proofs.Keeps.{kept-mem}
 use Rattle.rules.proofs.Text.{each-same}
-use Rattle.marks.proofs.Points.{mem-from}
-use Rattle.marks.proofs.Reading.{getD-mem}
+use Rattle.marks.proofs.Points.{mem-from, getD-mem}
 use Rattle.marks.proofs.Walks.{map-same, map-getD}
-use Rattle.delivery.proofs.Stored.{stored-all}
 use Rattle.put.specs.Put.{Put}
 use Rattle.put.proofs.Puts.{put-length}
 use Rattle.graphs.proofs.Concats.{mem-each}
@@ -97,7 +96,7 @@ module _ {G S : List ℕ} {count : ℕ} (w : Scanned G S count) (few : count ≤
     unfolding laid
     front =
         let e : n ≡ length order = omega (arith, put .place) in
-        ap (take n) (put .holds ∙ stored-all O₀ order (omega (arith, columns-most S count 256))) ∙ take-at order (drop (length order) O₀) n (sym e)
+        ap (take n) (put .holds ∙ laid-sets order O₀ (omega (arith, columns-most S count 256))) ∙ take-at order (drop (length order) O₀) n (sym e)
 
     -- the plan
     plan-is : planSeen G ≡ planBy G S O n

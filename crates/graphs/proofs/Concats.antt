@@ -1,5 +1,5 @@
 -- Laws of `concat` and `each`: over joined, mapped and repeated lists, and how long they are at most. Each by induction on the list.
-use mathlib.Core.Path.{_≡_, refl, sym, _∙_}
+use mathlib.Core.Path.{_≡_, refl, ap, sym, _∙_}
 use mathlib.Core.List.{List, [], _∷_, _++_, reverse, reverseAux, append-assoc, List·Memᴰ, List·Memᴰ·head, List·Memᴰ·tail, List·Memᴰ·cases-cons, List·Memᴰ·not-nil, List·Memᴰ·append-cases}
 use mathlib.Core.Bool.{Bool, true, false}
 use mathlib.Core.Logic.{_⊎_, inl, inr, ⊎-elim}
@@ -71,3 +71,9 @@ module _ {A : Type 0} where
   mem-each P f (suc n) h a m =
       ⊎-elim (λ (l : List·Memᴰ a (each f n)). mem-each P f n (λ k g. h k (omega arith)) a l) (λ (r : List·Memᴰ a (f n)). h n (omega arith) a r)
       (List·Memᴰ·append-cases (each f n) m)
+
+-- each by itself
+pub singles : {A : Type 0} (l : List A) → concat (λ a. a ∷ []) l ≡ l
+unfolding concat
+singles [] = refl
+singles {A} (a ∷ l) = ap (λ (m : List A). a ∷ m) (singles l)

@@ -12,6 +12,7 @@ use Rattle.rules.specs.Utf8.{valid}
 use Rattle.rules.specs.Plan.{Node, nodeAt, mostNodes, mostTitle}
 use Rattle.rules.specs.Reader.{tableOf, titlesOf}
 use Rattle.rules.proofs.Firsts.{first-before}
+use Rattle.rules.proofs.Lists.{laid-sets}
 use Rattle.json.specs.Text.{Broken}
 use Rattle.json.specs.Import.{importNumber, longTitle, fitted, taken, keptBy, Imports, invalid, broken, read}
 use Rattle.json.specs.declared.Imported.{Imported}
@@ -19,7 +20,6 @@ use Rattle.put.specs.Put.{Put}
 use Rattle.json_nodes.specs.Whole.{ReadPlan, ReadWhole}
 use Rattle.json_nodes.specs.declared.whole.Whole.{Whole}
 use Rattle.json_read.specs.Known.{Titled, Deep, HasTitles, HasPlan, Known, HasRead, Fitted, Delivered}
-use Rattle.json_read.proofs.Tabled.{stored}
 
 -- ROOM and done
 module _ (p : List Node) (table titles : List ℕ) (n : ℕ) (c : n ≡ length p) where
@@ -46,7 +46,7 @@ module _ (p : List Node) (table titles : List ℕ) (n : ℕ) (c : n ≡ length p
       record {
         answered = rw (c, le-ltb (length table) (3 * length p) (omega arith), le-ltb (length titles) (length (titlesOf p)) (omega arith));
         table-left = a;
-        titles-left = b .holds ∙ stored titles (titlesOf p) (omega arith);
+        titles-left = b .holds ∙ laid-sets (titlesOf p) titles (omega arith);
       }
 
 -- MANY and TITLE

@@ -1,4 +1,5 @@
 pub mod Filled
+pub mod Next
 pub mod Walks
 pub mod Plans
 pub mod Empties

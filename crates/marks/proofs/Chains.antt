@@ -1,45 +1,26 @@
 -- Chains: the cells of one row, whose columns rise strictly. What is known of the next one and of those between two columns.
 -- A row of cells in table order is such a chain, since its keys rise and its row stays.
-use mathlib.Core.Path.{_≡_, refl, ap}
+use mathlib.Core.Path.{_≡_, refl, ap, sym, _∙_}
 use mathlib.Core.List.{List, [], _∷_, List·Memᴰ, List·Memᴰ·cases-cons, List·Memᴰ·head, List·Memᴰ·tail, List·Memᴰ·not-nil}
-use mathlib.Core.Bool.{Bool, true, false, _&&_}
+use mathlib.Core.Bool.{Bool, true, false, _&&_, or-true, false≢true}
 use mathlib.Core.Logic.{⊎-elim, _⊎_}
 use Prim.Native.Nat.{ℕ, suc, _+_, _*_, _-_, _≤_, _<_}
+use native.Mathlib.Decide.{decLe, ℕ-discrete}
 use native.Mathlib.Omega.{arith}
-use lib.Dec.{leb, ltb}
-use borrow.Author.Tests.{ne-eqb, lt-ltb, leb-true, ltb-true}
+use lib.Dec.{leb, ltb, eqb}
+use borrow.Author.Tests.{eq-eqb, ne-eqb, lt-ltb, le-ltb, leb-true, ltb-true}
 use Rattle.rules.specs.Base.{pick, keep}
 use Rattle.rules.specs.Levels.{Cell}
-use Rattle.marks.specs.Plan.{between, nextOr}
-use Rattle.marks.specs.Joint.{atColumn, joint}
+use Rattle.marks.specs.Joint.{between, nextOr, atColumn, beyond, joint}
 use Rattle.marks.proofs.Points.{both}
 use Rattle.marks.proofs.Places.{row, column}
-use Rattle.marks.proofs.Plans.{Rising, key}
+use Rattle.marks.proofs.Plans.{Rises, rises-keep, Rising, key, columnOf}
 use Rattle.rules.proofs.Tests as Tests
 use Rattle.rules.proofs.Keeps.{kept-mem}
 
 -- columns rise strictly, the first is at least k
 abbrev pub Chain : ℕ → List Cell → Type 0
-Chain k [] = Unit {0}
-Chain k (c ∷ cs) = (k ≤ c .column) × Chain (suc (c .column)) cs
-
-pub chain-weaker : (k k′ : ℕ) (cs : List Cell) → k′ ≤ k → Chain k cs → Chain k′ cs
-chain-weaker k k′ [] h r = tt
-chain-weaker k k′ (c ∷ cs) h r = (omega (arith, r .0), r .1)
-
-pub chain-above : (k : ℕ) (cs : List Cell) {c : Cell} → Chain k cs → List·Memᴰ c cs → k ≤ c .column
-chain-above k [] r m = absurd (List·Memᴰ·not-nil m)
-chain-above k (b ∷ cs) {c} r m =
-    ⊎-elim (λ (e : c ≡ b). omega (arith, r .0, ap (λ (d : Cell). d .column) e)) (λ (n : List·Memᴰ c cs). omega (arith, r .0, chain-above (suc (b .column)) cs (r .1) n)) (List·Memᴰ·cases-cons m)
-
-pub chain-keep : (t : Cell → Bool) (k : ℕ) (cs : List Cell) → Chain k cs → Chain k (keep t cs)
-unfolding keep pick
-chain-keep t k [] r = tt
-chain-keep t k (c ∷ cs) r = go (chain-keep t (suc (c .column)) cs (r .1)) (t c)
-  where
-    go : Chain (suc (c .column)) (keep t cs) → (b : Bool) → Chain k (pick b (c ∷ keep t cs) (keep t cs))
-    go ih true = (r .0, ih)
-    go ih false = chain-weaker (suc (c .column)) k (keep t cs) (omega (arith, r .0)) ih
+Chain k cs = Rises columnOf k cs
 
 pub chain-row : (r n k : ℕ) (cs : List Cell) → Rising k cs → ((c : Cell) → List·Memᴰ c cs → c .row ≡ r) → n * 32 + r < k + 32 → Chain n cs
 unfolding key
@@ -48,7 +29,31 @@ chain-row r n k (c ∷ cs) ri h b =
     let e = h c (List·Memᴰ·head refl) in
     (omega (arith, ri .0), chain-row r (suc (c .column)) (suc (key c)) cs (ri .1) (λ d m. h d (List·Memᴰ·tail m)) (omega arith))
 
--- the two tests on a chain
+-- ---- the two tests of a joint
+pub at-some : (j : ℕ) (cs : List Cell) {c : Cell} → List·Memᴰ c cs → c .column ≡ j → atColumn j cs ≡ true
+unfolding atColumn
+at-some j [] m e = absurd (List·Memᴰ·not-nil m)
+at-some j (b ∷ cs) {c} m e =
+    ⊎-elim (λ (q : c ≡ b). rw (eq-eqb (b .column) j (ap (λ (d : Cell). d .column) (sym q) ∙ e))) (λ (n : List·Memᴰ c cs). rw (at-some j cs n e) (or-true (eqb (b .column) j)))
+    (List·Memᴰ·cases-cons m)
+
+pub at-mem : (j : ℕ) (cs : List Cell) → atColumn j cs ≡ true → (c : Cell) × List·Memᴰ c cs × (c .column ≡ j)
+unfolding atColumn
+at-mem j [] e = absurd (false≢true e)
+at-mem j (b ∷ cs) e =
+    elim (ℕ-discrete (b .column) j) [
+      | yes q ↦ (b, List·Memᴰ·head refl, q)
+      | no q ↦ (let w = at-mem j cs (rw (ne-eqb (b .column) j q) at e) in (w .0, List·Memᴰ·tail (w .1), w .2))
+    ]
+
+pub beyond-some : (j : ℕ) (cs : List Cell) {c : Cell} → List·Memᴰ c cs → j < c .column → beyond j cs ≡ true
+unfolding beyond
+beyond-some j [] m h = absurd (List·Memᴰ·not-nil m)
+beyond-some j (b ∷ cs) {c} m h =
+    ⊎-elim (λ (q : c ≡ b). rw (lt-ltb j (b .column) (omega (arith, ap (λ (d : Cell). d .column) q)))) (λ (n : List·Memᴰ c cs). rw (beyond-some j cs n h) (or-true (ltb j (b .column))))
+    (List·Memᴰ·cases-cons m)
+
+-- on a chain
 pub at-above : (j k : ℕ) (cs : List Cell) → Chain k cs → j < k → atColumn j cs ≡ false
 unfolding atColumn
 at-above j k [] r h = refl
@@ -67,7 +72,7 @@ chain-raise a k (c ∷ cs) ch f = (f c (List·Memᴰ·head refl), ch .1)
 
 pub chain-between : (a e k : ℕ) (ks : List Cell) → Chain k ks → Chain a (between a e ks)
 unfolding between
-chain-between a e k ks ch = chain-raise a k (between a e ks) (chain-keep _ k ks ch) (λ c m. between-mem a e ks m .1)
+chain-between a e k ks ch = chain-raise a k (between a e ks) (rises-keep columnOf _ k ks ch) (λ c m. between-mem a e ks m .1)
 
 pub chain-next : (e k : ℕ) (ps : List Cell) → Chain k ps → Chain (nextOr e ps) ps
 unfolding nextOr

@@ -13,30 +13,26 @@ use lib.Dec.{leb, ltb, eqb}
 use borrow.Author.Tests.{eqb-true, leb-true, ltb-true, ne-eqb, lt-leb, le-leb}
 use Rattle.marks.proofs.Facts as F
 use Rattle.rules.specs.Utf8.{valid, points}
-use Rattle.rules.specs.Lines.{digits}
-use Rattle.rules.specs.Plan.{Node}
+use Rattle.rules.specs.Lines.{digits, linesOf}
+use Rattle.rules.specs.Plan.{Node, nodeAt}
 use Rattle.rules.specs.Levels.{Cell, View, view}
 use Rattle.rules.specs.Measures.{d, linesIn, canvasWidth, canvasHeight}
 use Rattle.rules.specs.Drawing.{Marks, boxes, picture, endOf}
 use Rattle.rules.proofs.CharsBack.{utf8-points}
 use Rattle.marks.specs.Lawful.{Lawful}
-use Rattle.marks.specs.Plan.{cells, nodeView}
 use Rattle.marks.specs.Whole.{markAt, indexAt}
 use Rattle.marks.specs.Row.{drawn, digit, endBy, whiteSpace}
 use Rattle.marks.proofs.Places.{Proper}
-use Rattle.marks.proofs.Plans.{Rising, proper}
+use Rattle.marks.proofs.Plans.{Ruled, Rising, node-mem, cell-from, proper, cells-rising, rows-few}
 use Rattle.rules.proofs.Digits.{digits-some, digits-seen}
 use Rattle.rules.proofs.Tests.{both}
 use Rattle.marks.proofs.Margin.{axis-mark}
 use Rattle.marks.proofs.Reading.{wide-low, column-wide}
 use Rattle.rules.proofs.Scalars.{points-scalar}
 use Rattle.rules.proofs.Text.{end-within}
-use Rattle.marks.proofs.Back.{cell-from, rows-few, proper-rising}
-use Rattle.marks.proofs.Same.{view-same}
-use Rattle.marks.proofs.Wired.{picture-same}
 use Rattle.marks.proofs.Text.{Held, held}
 use Rattle.marks.proofs.Titles.{line-of}
-use Rattle.marks.proofs.Tests.{Drawable, forest}
+use Rattle.marks.proofs.Tests.{Drawable, ruled}
 use Rattle.marks.proofs.Whole.{whole}
 use Rattle.marks.proofs.Rows.{end-space, end-mark, end-past, end-by, last-drawn, head-digits}
 use Rattle.marks.proofs.Ends.{lawful}
@@ -47,31 +43,27 @@ pub record Laid (v : View) : Type 0 where
   pub rising-view : Rising 0 (v .cells)
   pub few-rows : v .rows ≤ 32
 
+pub laid-by : (p : List Node) → 1 ≤ length p → length p ≤ 256 → Ruled p → Laid (view p)
+laid-by p some few r = record { proper-view = proper p r some few; rising-view = cells-rising p r; few-rows = rows-few p r }
+
 pub laid : (len : List ℕ → ℕ) (marks : Marks) (p : List Node) → Drawable p → Laid (view p)
-laid len marks [] w = absurd (not-suc-le-zero (w .some))
-laid len marks (n ∷ ns) w =
-    let f = forest (n ∷ ns) w in
-    let q : Laid (nodeView (n ∷ ns)) = record { proper-view = proper len marks n ns f (w .sized); rising-view = proper-rising len marks n ns f; few-rows = rows-few len marks n ns f } in
-    rw (view-same len marks (n ∷ ns)) q
+laid len marks p w = laid-by p (w .some) (w .sized) (ruled p w)
 
 -- valid titles have code points that a text can hold
 pub titles-held : (len : List ℕ → ℕ) (marks : Marks) (p : List Node) → ((n : Node) → List·Memᴰ n p → valid (n .title) ≡ true)
     → (c : Cell) → List·Memᴰ c (view p .cells) → (l : List ℕ) → List·Memᴰ l (linesIn c) → (k : ℕ) → List·Memᴰ k (points l) → Held k
 titles-held len marks p h c m l q k r =
-    let f = cell-from 0 p c (unfold nodeView cells in (rw (view-same len marks p) at m)) in
-    line-of (f .0 .title) (record { codes = points (f .0 .title); is = utf8-points (f .0 .title) (h (f .0) (f .1)); scalar = points-scalar (f .0 .title) (h (f .0) (f .1)) }) l (rw (f .2) at q) .1 k r
+    let f = cell-from p c m in
+    let t = nodeAt p (f .0) .title in
+    let v = h (nodeAt p (f .0)) (node-mem p (f .0) (f .1)) in
+    line-of t (record { codes = points t; is = utf8-points t v; scalar = points-scalar t v }) l (rw (ap linesOf (f .2 .title-is)) at q) .1 k r
 
 module _ (len : List ℕ → ℕ) (marks : Marks) (ok : Lawful len marks) (p : List Node) (w : Drawable p) where
-  same : (x y : ℕ) → picture len marks (view p) x y ≡ F.painted len marks (view p) x y
-  same x y =
-      let l = laid len marks p w in
-      picture-same len marks (view p) (l .proper-view) (l .rising-view) (l .few-rows) x y
-
   -- the closed form, at every point of the canvas
   pub closed : (x y : ℕ) → x < canvasWidth len (view p) → y < canvasHeight (view p) → picture len marks (view p) x y ≡ markAt len marks (view p) x y
   closed x y a b =
       let l = laid len marks p w in
-      same x y ∙ whole len marks (view p) ok (l .proper-view) (l .rising-view) (l .few-rows) x y a b
+      whole len marks (view p) ok (l .proper-view) (l .rising-view) (l .few-rows) x y a b
 
   -- row 1 is as wide as the canvas
   pub row-1-full : endOf (picture len marks (view p)) 1 (canvasWidth len (view p)) ≡ canvasWidth len (view p)
@@ -79,7 +71,7 @@ module _ (len : List ℕ → ℕ) (marks : Marks) (ok : Lawful len marks) (p : L
       let l = laid len marks p w in
       let b = wide-low len marks (view p) (l .proper-view) in
       let x = canvasWidth len (view p) - 1 in
-      let e = same x 1 ∙ F.row-1-after len marks (view p) ok (l .proper-view) x (omega arith) (omega arith) in
+      let e = F.row-1-after len marks (view p) ok (l .proper-view) x (omega arith) (omega arith) in
       omega (
         arith,
         end-within (picture len marks (view p)) 1 (canvasWidth len (view p)),
@@ -88,10 +80,7 @@ module _ (len : List ℕ → ℕ) (marks : Marks) (ok : Lawful len marks) (p : L
 
   -- every point holds a code point that a text can hold,
   pub held-at : ((n : Node) → List·Memᴰ n p → valid (n .title) ≡ true) → (x y : ℕ) → Held (picture len marks (view p) x y)
-  unfolding F.painted
-  held-at h x y =
-      let l = laid len marks p w in
-      rw (same x y) (held len marks ok (view p) (l .proper-view) (titles-held len marks p h) x y)
+  held-at h = held len marks ok (view p) (titles-held len marks p h)
 
   -- and none holds 0A
   pub no-0A : ((n : Node) → List·Memᴰ n p → valid (n .title) ≡ true) → (x y : ℕ) → picture len marks (view p) x y ≡ 0x0A → ⊥
@@ -125,7 +114,7 @@ module _ (len : List ℕ → ℕ) (marks : Marks) (ok : Lawful len marks) (p : L
           let c = column-wide len marks (view p) 0 (omega (arith, pv .columned)) in
           let s = digits-some 0 in
           let x = indexAt len (view p) 0 + 0 in
-          let e = same x 0 ∙ F.head-digit len marks (view p) ok pv 0 0 (omega (arith, pv .columned)) (omega arith) in
+          let e = F.head-digit len marks (view p) ok pv 0 0 (omega (arith, pv .columned)) (omega arith) in
           omega (arith, end-past (picture len marks (view p)) 0 (canvasWidth len (view p)) x (omega arith) (λ z. omega (arith, e, z, digits-seen 0 0 (omega arith))))
 
       some-1 : 1 ≤ y → d (view p) + 2 < endOf (picture len marks (view p)) y (canvasWidth len (view p))
@@ -133,26 +122,25 @@ module _ (len : List ℕ → ℕ) (marks : Marks) (ok : Lawful len marks) (p : L
           end-past (picture len marks (view p)) y (canvasWidth len (view p)) (d (view p) + 2) (omega (arith, low))
           (λ z.
           elim (ℕ-discrete y 1) [
-            | yes e ↦ omega (arith, ok .┌-seen .above, sym (F.row-1-corner len marks (view p) ok (L .proper-view)) ∙ ap (F.painted len marks (view p) (d (view p) + 2)) (sym e) ∙ sym (same (d (view p) + 2) y) ∙ z)
-            | no e ↦ omega (arith, ok .│-seen .above, sym (axis-mark len marks (view p) ok (L .proper-view) y (omega arith) b) ∙ sym (same (d (view p) + 2) y) ∙ z)
+            | yes e ↦ omega (arith, ok .┌-seen .above, sym (F.row-1-corner len marks (view p) ok (L .proper-view)) ∙ ap (picture len marks (view p) (d (view p) + 2)) (sym e) ∙ z)
+            | no e ↦ omega (arith, ok .│-seen .above, sym (axis-mark len marks (view p) ok (L .proper-view) y (omega arith) b) ∙ z)
           ])
 
       digit-0 : digit (picture len marks (view p) (endOf (picture len marks (view p)) 0 (canvasWidth len (view p)) - 1) 0) ≡ true
       digit-0 =
           let x = endOf (picture len marks (view p)) 0 (canvasWidth len (view p)) - 1 in
           ⊎-elim
-          (λ (q : digit (F.painted len marks (view p) x 0) ≡ true). ap digit (same x 0) ∙ q)
-          (λ (q : F.painted len marks (view p) x 0 ≡ 32). absurd (end-mark (picture len marks (view p)) 0 (canvasWidth len (view p)) some-0 (same x 0 ∙ q)))
+          (λ (q : digit (picture len marks (view p) x 0) ≡ true). q)
+          (λ (q : picture len marks (view p) x 0 ≡ 32). absurd (end-mark (picture len marks (view p)) 0 (canvasWidth len (view p)) some-0 q))
           (head-digits len marks (view p) ok (L .proper-view) x)
 
       mark-1 : 1 ≤ y → d (view p) + 2 < endOf (picture len marks (view p)) y (canvasWidth len (view p))
           → drawn marks (picture len marks (view p) (endOf (picture len marks (view p)) y (canvasWidth len (view p)) - 1) y) ≡ true
       mark-1 h s =
           let x = endOf (picture len marks (view p)) y (canvasWidth len (view p)) - 1 in
-          ap (drawn marks) (same x y)
-          ∙ last-drawn len marks (view p) ok (L .proper-view) x y (omega arith) h
-          (λ z. end-mark (picture len marks (view p)) y (canvasWidth len (view p)) (omega arith) (same x y ∙ z))
-          (λ k a c. sym (same k y) ∙ end-space (picture len marks (view p)) y (canvasWidth len (view p)) k (omega arith) c)
+          last-drawn len marks (view p) ok (L .proper-view) x y (omega arith) h
+          (end-mark (picture len marks (view p)) y (canvasWidth len (view p)) (omega arith))
+          (λ k a c. end-space (picture len marks (view p)) y (canvasWidth len (view p)) k (omega arith) c)
 
   -- losing all white space is losing spaces, whatever else is white but digits and the nine marks
   pub trim-end : (white : ℕ → Bool) → white 0x20 ≡ true → ((k : ℕ) → digit k ≡ true → white k ≡ false) → ((k : ℕ) → drawn marks k ≡ true → white k ≡ false)

@@ -13,9 +13,10 @@ use Rattle.rules.specs.Drawing.{Marks, boxBottom}
 use Rattle.rules.proofs.Columns.{box-in-row, box-in-column, offset-total, row-offset-total, offset-after, row-offset-after}
 use Rattle.marks.proofs.Places.{same-column, same-row}
 use Rattle.marks.proofs.Columns.{left-suc}
+use Rattle.explain.proofs.Titles.{one-place}
 use Rattle.one_parent.specs.Parent.{AllTitled, cellOf}
 use Rattle.one_parent.specs.OneParent.{InBox}
-use Rattle.one_parent.proofs.Nodes.{laid, cell-in, same-node}
+use Rattle.one_parent.proofs.Nodes.{laid, cell-in}
 
 module _ (len : List ℕ → ℕ) (marks : Marks) {p : List Node} (t : AllTitled p) where
   -- columns end where the canvas does, but for their last place; a cell of the view is on the canvas
@@ -52,6 +53,6 @@ module _ (len : List ℕ → ℕ) (marks : Marks) {p : List Node} (t : AllTitled
       let r = box-in-row (view p) (cellOf p k) (cell-in t k h) in
       let c′ = box-in-column len (view p) (cellOf p l) (cell-in t l g) in
       let r′ = box-in-row (view p) (cellOf p l) (cell-in t l g) in
-      same-node p k l
+      one-place p k l
       (same-row len marks (view p) (depthAt p k) (depthAt p l) {y = y} (omega arith) (omega arith) (omega arith) (omega arith))
       (same-column len marks (view p) (columnAt p k) (columnAt p l) {x = x} (omega arith) (omega arith) (omega arith) (omega arith))

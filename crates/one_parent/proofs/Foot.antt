@@ -16,49 +16,23 @@ use Rattle.rules.specs.Base.{pick}
 use Rattle.rules.specs.Levels.{Cell, View, inRow, nextColumn, children}
 use Rattle.rules.specs.Measures.{linesIn, longest, width, columnOffset}
 use Rattle.rules.specs.Strokes.{over}
-use Rattle.rules.specs.Drawing.{Marks, boxLeft, boxTop, boxBottom, lineOf, bendRow}
+use Rattle.rules.specs.Drawing.{Marks, boxLeft, boxTop, boxBottom, lineOf, bendRow, box, picture}
 use Rattle.rules.proofs.Lists.{mem-keep}
 use Rattle.rules.proofs.Columns.{offset-after}
 use Rattle.marks.specs.Lawful.{Lawful}
-use Rattle.marks.specs.Plan.{nextOr, between}
-use Rattle.marks.specs.Joint.{Joint, joint, jointOf, atColumn, beyond, footMark}
-use Rattle.marks.specs.Picture.{box}
+use Rattle.marks.specs.Joint.{nextOr, between, Joint, joint, jointOf, atColumn, beyond, footMark}
 use Rattle.marks.proofs.Places.{Proper, placed, row, column}
-use Rattle.marks.proofs.Plans.{Rising}
-use Rattle.marks.proofs.Chains.{Chain, chain-above}
+use Rattle.marks.proofs.Plans.{Rising, columnOf, rises-above}
+use Rattle.marks.proofs.Chains.{Chain, at-some, at-mem, beyond-some}
 use Rattle.marks.proofs.Boxes.{box-out, box-border, frame-bottom}
 use Rattle.marks.proofs.Lines.{above}
-use Rattle.marks.proofs.Facts.{painted, on-box, right-border}
+use Rattle.marks.proofs.Facts.{on-box, right-border}
 use Rattle.marks.proofs.Field.{frame-last}
-use Rattle.marks.proofs.Keystone.{chain-of, key-foot}
-use Rattle.marks.proofs.Wired.{next-same}
+use Rattle.marks.proofs.Keystone.{rest-all, key-foot}
+use Rattle.marks.proofs.Wired.{Rest, rest-next, next-same}
 use Rattle.marks.proofs.Picture.{Laid}
 use Rattle.marks.proofs.Ends.{find-column}
 use Rattle.one_parent.proofs.Parents.{Child, child, child-in, next-least}
-
--- ---- the two tests of a joint
-pub at-some : (j : ℕ) (cs : List Cell) {c : Cell} → List·Memᴰ c cs → c .column ≡ j → atColumn j cs ≡ true
-unfolding atColumn
-at-some j [] m e = absurd (List·Memᴰ·not-nil m)
-at-some j (b ∷ cs) {c} m e =
-    ⊎-elim (λ (q : c ≡ b). rw (eq-eqb (b .column) j (ap (λ (d : Cell). d .column) (sym q) ∙ e))) (λ (n : List·Memᴰ c cs). rw (at-some j cs n e) (or-true (eqb (b .column) j)))
-    (List·Memᴰ·cases-cons m)
-
-pub at-mem : (j : ℕ) (cs : List Cell) → atColumn j cs ≡ true → (c : Cell) × List·Memᴰ c cs × (c .column ≡ j)
-unfolding atColumn
-at-mem j [] e = absurd (false≢true e)
-at-mem j (b ∷ cs) e =
-    elim (ℕ-discrete (b .column) j) [
-      | yes q ↦ (b, List·Memᴰ·head refl, q)
-      | no q ↦ (let w = at-mem j cs (rw (ne-eqb (b .column) j q) at e) in (w .0, List·Memᴰ·tail (w .1), w .2))
-    ]
-
-pub beyond-some : (j : ℕ) (cs : List Cell) {c : Cell} → List·Memᴰ c cs → j < c .column → beyond j cs ≡ true
-unfolding beyond
-beyond-some j [] m h = absurd (List·Memᴰ·not-nil m)
-beyond-some j (b ∷ cs) {c} m h =
-    ⊎-elim (λ (q : c ≡ b). rw (lt-ltb j (b .column) (omega (arith, ap (λ (d : Cell). d .column) q)))) (λ (n : List·Memᴰ c cs). rw (beyond-some j cs n h) (or-true (ltb j (b .column))))
-    (List·Memᴰ·cases-cons m)
 
 -- what is equal to one of two
 pub by-either : {q r m n : ℕ} → q ≡ r → (r ≡ m) ⊎ (r ≡ n) → (q ≡ m) ⊎ (q ≡ n)
@@ -93,39 +67,33 @@ module _ (len : List ℕ → ℕ) (marks : Marks) (ok : Lawful len marks) (v : V
   jointUnder P j = record { parent = eqb (P .column) j; child = atColumn j (children v (P .row) (P .column)); on = beyond j (children v (P .row) (P .column)) }
 
   -- ---- in a column from P's up to the next parent's the joint is P's
-  joint-in : (P : Cell) (j k : ℕ) → P .column ≤ j → j < nextColumn v (P .row) (P .column) → (ps : List Cell) → Chain k ps
-      → ((c : Cell) → List·Memᴰ c ps → List·Memᴰ c (inRow (v .cells) (P .row)))
-      → ((c : Cell) → List·Memᴰ c (inRow (v .cells) (P .row)) → List·Memᴰ c ps ⊎ (c .column < k))
+  joint-in : (P : Cell) (j k : ℕ) → P .column ≤ j → j < nextColumn v (P .row) (P .column) → (ps : List Cell) → Rest v (P .row) k ps
       → List·Memᴰ P ps → joint j (v .columns) ps (inRow (v .cells) (P .row + 1)) ≡ jointUnder P j
   unfolding joint pick children between
-  joint-in P j k h g [] ch f e m = absurd (List·Memᴰ·not-nil m)
-  joint-in P j k h g (q ∷ ps) ch f e m =
+  joint-in P j k h g [] r m = absurd (List·Memᴰ·not-nil m)
+  joint-in P j k h g (q ∷ ps) r m =
+      let r′ = rest-next v (P .row) k q ps r in
       ⊎-elim
       (λ (z : P ≡ q).
-      (let n : nextColumn v (P .row) (P .column) ≡ nextOr (v .columns) ps = ap (λ (c : Cell). nextColumn v (P .row) (c .column)) z ∙ next-same len marks v pv ri few (P .row) k q ps ch f e in
+      (let n : nextColumn v (P .row) (P .column) ≡ nextOr (v .columns) ps = ap (λ (c : Cell). nextColumn v (P .row) (c .column)) z ∙ next-same len marks v pv (P .row) k q ps r in
       let a : q .column ≤ j = omega (arith, ap (λ (c : Cell). c .column) z) in
       let b : j < nextOr (v .columns) ps = omega (arith, n) in
       rw (le-ltb j (q .column) a, lt-ltb j (nextOr (v .columns) ps) b, ← n, ← z)))
       (λ (z : List·Memᴰ P ps).
-      (let a = chain-above (suc (q .column)) ps (ch .1) z in
-      let b : nextOr (v .columns) ps ≤ j = next-at-most ps (ch .1) z in
-      rw (le-ltb j (q .column) (omega arith), le-ltb j (nextOr (v .columns) ps) b)
-      (joint-in P j (suc (q .column)) h g ps (ch .1) (λ c n. f c (List·Memᴰ·tail n))
-      (λ c n.
-      ⊎-elim
-      (λ (y : List·Memᴰ c (q ∷ ps)). ⊎-elim (λ (w : c ≡ q). inr (omega (arith, ap (λ (a : Cell). a .column) w))) (λ (w : List·Memᴰ c ps). inl w) (List·Memᴰ·cases-cons y))
-      (λ (y : c .column < k). inr (omega (arith, ch .0))) (e c n)) z)))
+      (let a = rises-above columnOf (suc (q .column)) ps (r′ .chain) z in
+      let b : nextOr (v .columns) ps ≤ j = next-at-most ps (r′ .chain) z in
+      rw (le-ltb j (q .column) (omega arith), le-ltb j (nextOr (v .columns) ps) b) (joint-in P j (suc (q .column)) h g ps r′ z)))
       (List·Memᴰ·cases-cons m)
     where
       next-at-most : (ps : List Cell) → Chain (suc (q .column)) ps → List·Memᴰ P ps → nextOr (v .columns) ps ≤ j
       next-at-most [] ch z = absurd (List·Memᴰ·not-nil z)
-      next-at-most (r ∷ rs) ch z = unfold nextOr in omega (arith, chain-above (r .column) (r ∷ rs) (omega arith, ch .1) z)
+      next-at-most (r ∷ rs) ch z = unfold nextOr in omega (arith, rises-above columnOf (r .column) (r ∷ rs) (omega arith, ch .1) z)
 
   module _ (P : Cell) (m : List·Memᴰ P (v .cells)) where
     pub joint-here : (j : ℕ) → P .column ≤ j → j < nextColumn v (P .row) (P .column) → jointOf v (P .row) j ≡ jointUnder P j
     unfolding jointOf inRow
     joint-here j h g =
-        joint-in P j 0 h g (inRow (v .cells) (P .row)) (chain-of len marks v pv ri few (P .row) (omega (arith, pv .row-in P m))) (λ c n. n) (λ c n. inl n)
+        joint-in P j 0 h g (inRow (v .cells) (P .row)) (rest-all len marks v pv ri few (P .row) (omega (arith, pv .row-in P m)))
         (mem-keep (λ (c : Cell). eqb (c .row) (P .row)) (v .cells) m (eq-eqb (P .row) (P .row) refl))
 
     -- no cell of P's row stands between
@@ -169,7 +137,7 @@ module _ (len : List ℕ → ℕ) (marks : Marks) (ok : Lawful len marks) (v : V
 
       -- ---- P's foot, in P's column
       foot-is : (x y : ℕ) → columnOffset len v (P .column) ≤ x → x < columnOffset len v (P .column) + width len v (P .column) → boxBottom v P ≤ y → y < bendRow v (P .row)
-          → painted len marks v x y ≡ footMark marks (jointUnder P (P .column)) x (lineOf len v P) y (boxBottom v P) (over 32 (box len marks v P) x y)
+          → picture len marks v x y ≡ footMark marks (jointUnder P (P .column)) x (lineOf len v P) y (boxBottom v P) (over 32 (box len marks v P) x y)
       unfolding D.bendRow
       foot-is x y a b d e =
           let o = placed len marks v pv P m in
@@ -177,9 +145,9 @@ module _ (len : List ℕ → ℕ) (marks : Marks) (ok : Lawful len marks) (v : V
           (key-foot len marks v pv ri few ok (P .row) (P .column) x y a b (omega arith) (omega arith) (lineOf len v P) stem P m refl refl rows-below d e)
 
       under-box : (x y : ℕ) → boxBottom v P < y → over 32 (box len marks v P) x y ≡ 32
-      under-box x y h = let o = placed len marks v pv P m in box-out len marks ok v P {x = x} {y = y} (λ a b d e. omega arith) .misses 32
+      under-box x y h = let o = placed len marks v pv P m in box-out len marks ok v pv P m {x = x} {y = y} (λ a b d e. omega arith) .misses 32
 
-      pub foot-line : (y : ℕ) → boxBottom v P ≤ y → y < bendRow v (P .row) → painted len marks v (lineOf len v P) y ≡ pick (eqb y (boxBottom v P)) ┬ │
+      pub foot-line : (y : ℕ) → boxBottom v P ≤ y → y < bendRow v (P .row) → picture len marks v (lineOf len v P) y ≡ pick (eqb y (boxBottom v P)) ┬ │
       unfolding footMark pick
       foot-line y a b =
           let o = placed len marks v pv P m in
@@ -194,7 +162,7 @@ module _ (len : List ℕ → ℕ) (marks : Marks) (ok : Lawful len marks) (v : V
               ]
 
       pub foot-next : (d : Cell) → Child v (P .row) (P .column) d → d .column ≡ P .column → P .column < c .column → (y : ℕ) → boxBottom v P ≤ y → y < bendRow v (P .row)
-          → painted len marks v (lineOf len v P + 1) y ≡ pick (eqb y (boxBottom v P)) ┬ │
+          → picture len marks v (lineOf len v P + 1) y ≡ pick (eqb y (boxBottom v P)) ┬ │
       unfolding footMark pick
       foot-next d q e h y a b =
           let o = placed len marks v pv P m in
@@ -210,7 +178,7 @@ module _ (len : List ℕ → ℕ) (marks : Marks) (ok : Lawful len marks) (v : V
 
       -- beside the foot, under the box
       pub foot-blank : (x y : ℕ) → lineOf len v P < x → x < columnOffset len v (P .column) + width len v (P .column) → boxBottom v P < y → y < bendRow v (P .row)
-          → (x ≡ lineOf len v P + 1 → (d : Cell) → Child v (P .row) (P .column) d → d .column ≡ P .column → ⊥) → painted len marks v x y ≡ 32
+          → (x ≡ lineOf len v P + 1 → (d : Cell) → Child v (P .row) (P .column) d → d .column ≡ P .column → ⊥) → picture len marks v x y ≡ 32
       unfolding footMark pick
       foot-blank x y a b d e f =
           let o = placed len marks v pv P m in
@@ -228,12 +196,12 @@ module _ (len : List ℕ → ℕ) (marks : Marks) (ok : Lawful len marks) (v : V
 
       -- ---- the bottom border right of the line: ─ or ┬, up to ╯ under a │
       pub border : (x : ℕ) → lineOf len v P ≤ x → x < boxLeft len v P + longest len P + 3
-          → (painted len marks v x (boxBottom v P) ≡ ─) ⊎ (painted len marks v x (boxBottom v P) ≡ ┬)
+          → (picture len marks v x (boxBottom v P) ≡ ─) ⊎ (picture len marks v x (boxBottom v P) ≡ ┬)
       border x a b =
           let o = placed len marks v pv P m in
           let g = above len marks v pv (P .row) P m refl in
           let bar : over 32 (box len marks v P) x (boxBottom v P) ≡ ─ =
-          box-border len marks ok v P (frame-bottom len marks (boxLeft len v P) (boxTop v P) (longest len P) (length (linesIn P)) (omega arith) b (o .bottom)) (λ p q r s. omega arith) .gives 32 in
+          box-border len marks ok v pv P m (frame-bottom len marks (boxLeft len v P) (boxTop v P) (longest len P) (length (linesIn P)) (omega arith) b (o .bottom)) (λ p q r s. omega arith) .gives 32 in
           let e = foot-is x (boxBottom v P) (omega arith) (omega arith) (omega arith) (omega arith) in
           by-either e
           (rw bar
@@ -242,11 +210,11 @@ module _ (len : List ℕ → ℕ) (marks : Marks) (ok : Lawful len marks) (v : V
           (foot-either ─ ┬ │ (eqb (P .column) (P .column) && leb (boxBottom v P) (boxBottom v P)) (eqb x (lineOf len v P)) (eqb x (lineOf len v P + 1))
           (jointUnder P (P .column) .child || jointUnder P (P .column) .on) (jointUnder P (P .column) .child && jointUnder P (P .column) .on)))))
 
-      pub corner : painted len marks v (boxLeft len v P + longest len P + 3) (boxBottom v P) ≡ marks .╯
+      pub corner : picture len marks v (boxLeft len v P + longest len P + 3) (boxBottom v P) ≡ marks .╯
       corner =
           let o = placed len marks v pv P m in
           on-box len marks v ok pv P m (omega arith) (omega arith) (omega arith) (omega arith) (λ a b. omega arith)
-          (box-border len marks ok v P (frame-last len marks _ _ _ _ refl (o .bottom)) (λ a b p q. omega arith))
+          (box-border len marks ok v pv P m (frame-last len marks _ _ _ _ refl (o .bottom)) (λ a b p q. omega arith))
 
-      pub side : painted len marks v (boxLeft len v P + longest len P + 3) (boxBottom v P - 1) ≡ │
+      pub side : picture len marks v (boxLeft len v P + longest len P + 3) (boxBottom v P - 1) ≡ │
       side = let o = placed len marks v pv P m in right-border len marks v ok pv P m (boxBottom v P - 1) (omega arith) (omega arith)

@@ -19,10 +19,9 @@ use Rattle.rules.specs.Drawing.{Marks, picture, boxLeft, boxTop, boxBottom, lin
 use Rattle.rules.proofs.Columns.{offset-after}
 use Rattle.marks.specs.Lawful.{Lawful}
 use Rattle.marks.specs.Joint.{atColumn}
-use Rattle.marks.proofs.Facts.{painted}
 use Rattle.marks.proofs.Places.{placed}
 use Rattle.marks.proofs.Lines.{under, above, same-line}
-use Rattle.marks.proofs.Wired.{picture-same}
+use Rattle.marks.proofs.Chains.{at-mem, at-some}
 use Rattle.one_parent.specs.Parent.{parentOf, AllTitled, cellOf}
 use Rattle.one_parent.specs.Walk.{up, left, arrived, On, closes, steps, walk}
 use Rattle.one_parent.specs.Owner.{connector, Owns}
@@ -33,15 +32,11 @@ use Rattle.one_parent.proofs.Boxes.{columns-within, cell-within, boxes-
 use Rattle.one_parent.proofs.Climb.{Takes, once, then, ended, always, climbs, slides, turns-up, arrives, turns-left, closed-by, open-to}
 use Rattle.one_parent.proofs.Reach as R
 use Rattle.one_parent.proofs.Reach.{Reach, reached}
-use Rattle.one_parent.proofs.Foot.{at-mem, at-some, foot-line, foot-next, border, corner, side}
+use Rattle.one_parent.proofs.Foot.{foot-line, foot-next, border, corner, side}
 use Rattle.one_parent.proofs.Bend.{bend-straight, bend-first, bend-second, bend-bar, bend-turn, over-bend, bend-over, head-line}
 
 module _ (len : List ℕ → ℕ) (marks : Marks) (ok : Lawful len marks) {p : List Node} (t : AllTitled p) where
   open Marks marks using (─, │, ╮, ╰, ╯, ┬, ┴)
-
-  -- the rules' picture is the one that crate marks' laws are about
-  pub seen : (x y : ℕ) {k : ℕ} → painted len marks (view p) x y ≡ k → picture len marks (view p) x y ≡ k
-  seen x y e = let l = laid t in picture-same len marks (view p) (l .proper-view) (l .rising-view) (l .few-rows) x y ∙ e
 
   -- a parent P has a child in its own column, or none
   pub straight? : (P : Cell) → ((d : Cell) × Child (view p) (P .row) (P .column) d × (d .column ≡ P .column)) ⊎ ((d : Cell) → Child (view p) (P .row) (P .column) d → d .column ≡ P .column → ⊥)
@@ -91,14 +86,14 @@ module _ (len : List ℕ → ℕ) (marks : Marks) (ok : Lawful len marks) {p : L
       pub along : (n : ℕ) → On Q (steps marks at w n (up (lineOf len (view p) c) (boxTop (view p) c)))
 
     -- all that the walk looks at is on the canvas: before the next parent's column, and not under c's top border
-    shown : (x y : ℕ) {n : ℕ} → x + 1 < E → y ≤ boxTop (view p) c → painted len marks (view p) x y ≡ n → at x y ≡ n
+    shown : (x y : ℕ) {n : ℕ} → x + 1 < E → y ≤ boxTop (view p) c → picture len marks (view p) x y ≡ n → at x y ≡ n
     shown x y f g e =
         let o = placed len marks (view p) (laid t .proper-view) c (k .cell) in
         sheet .point x y (omega (arith, columns-within len marks t (nextColumn (view p) (P .row) (P .column)) (next-most (view p) (P .row) (P .column)))) (omega (arith, cell-within len marks t c (k .cell)))
-        ∙ seen x y e
+        ∙ e
 
-    shown-or : (x y : ℕ) {n o : ℕ} → x + 1 < E → y ≤ boxTop (view p) c → (painted len marks (view p) x y ≡ n) ⊎ (painted len marks (view p) x y ≡ o) → (at x y ≡ n) ⊎ (at x y ≡ o)
-    shown-or x y {n} {o} f g e = ⊎-elim (λ (z : painted len marks (view p) x y ≡ n). inl (shown x y f g z)) (λ (z : painted len marks (view p) x y ≡ o). inr (shown x y f g z)) e
+    shown-or : (x y : ℕ) {n o : ℕ} → x + 1 < E → y ≤ boxTop (view p) c → (picture len marks (view p) x y ≡ n) ⊎ (picture len marks (view p) x y ≡ o) → (at x y ≡ n) ⊎ (at x y ≡ o)
+    shown-or x y {n} {o} f g e = ⊎-elim (λ (z : picture len marks (view p) x y ≡ n). inl (shown x y f g z)) (λ (z : picture len marks (view p) x y ≡ o). inr (shown x y f g z)) e
 
     -- P's column and c's end before it
     P-before : columnOffset len (view p) (P .column) + width len (view p) (P .column) ≤ E
@@ -168,21 +163,31 @@ module _ (len : List ℕ → ℕ) (marks : Marks) (ok : Lawful len marks) {p : L
           along = λ n. rw s (always ok at w Q way n);
         }
 
-    -- c is further right: up to the bend row, left along it to x, and up
-    bent-walk : P .column < c .column → (x : ℕ) → l ≤ x → x ≤ l + 1 → at x b ≡ ╰ → ((y : ℕ) → B ≤ y → y < b → at x y ≡ pick (eqb y B) ┬ │)
-        → ((q : ℕ) → x < q → q ≡ l + 1 → (d : Cell) → Child (view p) (P .row) (P .column) d → d .column ≡ P .column → ⊥)
-        → ((y : ℕ) → B ≤ y → y ≤ b → Q x y) → Ends
-    bent-walk e x x₀ x₁ root foot free own =
+    -- c is further right: up to the bend row, and left,
+    further : P .column < c .column → l + 1 < lineOf len (view p) c
+    further e =
+        let o = placed len marks (view p) (laid t .proper-view) P m in
+        let o′ = placed len marks (view p) (laid t .proper-view) c (k .cell) in
+        omega (arith, offset-after len (view p) (P .column) (c .column) e)
+
+    -- over the bend row nothing stands right of P's foot
+    over : P .column < c .column → (x : ℕ) → l ≤ x → ((q : ℕ) → x < q → q ≡ l + 1 → (d : Cell) → Child (view p) (P .row) (P .column) d → d .column ≡ P .column → ⊥)
+        → (q : ℕ) → x < q → q + 1 < E → at q (b - 1) ≡ 32
+    over e x x₀ free q f h =
+        let u = up-to in
+        let e₀ = c-before in
+        let o′ = placed len marks (view p) (laid t .proper-view) c (k .cell) in
+        shown q (b - 1) h (omega arith) (over-bend len marks ok (view p) (laid t) P m c k q (omega arith) (omega arith) (free q f))
+
+    turned : P .column < c .column
+        → Takes ok at w Q (boxTop (view p) c - suc b + 1) (up (lineOf len (view p) c) (boxTop (view p) c)) (left (lineOf len (view p) c) b)
+    turned e =
         let L = laid t in
-        let g = above len marks (view p) (L .proper-view) (P .row) P m refl in
-        let u = under len marks (view p) (L .proper-view) (P .row) c (k .cell) (k .below) in
-        let o = placed len marks (view p) (L .proper-view) P m in
+        let u = up-to in
         let o′ = placed len marks (view p) (L .proper-view) c (k .cell) in
-        let apart : l + 1 < lineOf len (view p) c = omega (arith, offset-after len (view p) (P .column) (c .column) e) in
+        let apart = further e in
         let e₀ = c-before in
         let v = bend-over len marks ok (view p) L P m c k e in
-        let over : (q : ℕ) → x < q → q + 1 < E → at q (b - 1) ≡ 32 =
-        λ q f h. shown q (b - 1) h (omega arith) (over-bend len marks ok (view p) L P m c k q (omega arith) (omega arith) (free q f)) in
         let line : (q : ℕ) → suc b ≤ q → q < boxTop (view p) c → at (lineOf len (view p) c) q ≡ │ =
         λ q f h.
         shown (lineOf len (view p) c) q (omega arith) (omega arith) (head-line len marks ok (view p) L P m c k q (omega arith) (omega arith))
@@ -190,22 +195,41 @@ module _ (len : List ℕ → ℕ) (marks : Marks) (ok : Lawful len marks) {p : L
         let z : lineOf len (view p) c + (v .e - lineOf len (view p) c) ≡ v .e = omega (arith, v .further) in
         let open-row : closes marks at w (lineOf len (view p) c) b ≡ false =
         open-to ok at (v .e - lineOf len (view p) c) (lineOf len (view p) c) b w
-        (λ q f h. over q (omega arith) (omega (arith, v .within)))
+        (λ q f h. over e (l + 1) (omega arith) (λ q f n. absurd (omega arith)) q (omega arith) (omega (arith, v .within)))
         (ap (λ (n : ℕ). at n b) z ∙ shown (v .e) b (v .within) (omega arith) (v .blank)) in
-        let bar : (q : ℕ) → suc x ≤ q → q < lineOf len (view p) c → ((at q b ≡ ─) ⊎ (at q b ≡ ┬)) × (at q (b - 1) ≡ 32) =
-        λ q f h. (shown-or q b (omega arith) (omega arith) (bend-bar len marks ok (view p) L P m c k q (omega arith) h (free q f)), over q f (omega arith)) in
-        let head-own : (y : ℕ) → b < y → y ≤ boxTop (view p) c → Q (lineOf len (view p) c) y = λ y f h. on (lineOf len (view p) c) y (R.head c k e refl f h) in
-        let bar-own : (q : ℕ) → x < q → q ≤ lineOf len (view p) c → Q q b = λ q f h. on q b (R.bar c k e (omega arith) h refl) in
-        let turned : Takes ok at w Q (boxTop (view p) c - suc b + 1) (up (lineOf len (view p) c) (boxTop (view p) c)) (left (lineOf len (view p) c) b) =
-        then ok at w Q (climbs ok at w Q (lineOf len (view p) c) (suc b) (boxTop (view p) c) (omega arith) line (λ q f h. head-own q f h))
+        let own : (y : ℕ) → b < y → y ≤ boxTop (view p) c → Q (lineOf len (view p) c) y = λ y f h. on (lineOf len (view p) c) y (R.head c k e refl f h) in
+        then ok at w Q (climbs ok at w Q (lineOf len (view p) c) (suc b) (boxTop (view p) c) (omega arith) line (λ q f h. own q f h))
         (once ok at w Q
         (turns-left ok at w Q upright (lineOf len (view p) c) b (shown-or (lineOf len (view p) c) b (omega arith) (omega arith) (bend-turn len marks ok (view p) L P m c k e)) open-row)
-        (head-own (suc b) (omega arith) (omega arith)) (bar-own (lineOf len (view p) c) (omega arith) (omega arith))) in
-        let back : Takes ok at w Q (lineOf len (view p) c - suc x + 1) (left (lineOf len (view p) c) b) (up x b) =
+        (own (suc b) (omega arith) (omega arith)) (on (lineOf len (view p) c) b (R.bar c k e (omega arith) (omega arith) refl)))
+
+    -- along it to x, and up again
+    back : P .column < c .column → (x : ℕ) → l ≤ x → x ≤ l + 1 → at x b ≡ ╰ → at x (b - 1) ≡ │
+        → ((q : ℕ) → x < q → q ≡ l + 1 → (d : Cell) → Child (view p) (P .row) (P .column) d → d .column ≡ P .column → ⊥) → Q x b
+        → Takes ok at w Q (lineOf len (view p) c - suc x + 1) (left (lineOf len (view p) c) b) (up x b)
+    back e x x₀ x₁ root line free own =
+        let L = laid t in
+        let u = up-to in
+        let o′ = placed len marks (view p) (L .proper-view) c (k .cell) in
+        let apart = further e in
+        let e₀ = c-before in
+        let bar : (q : ℕ) → suc x ≤ q → q < lineOf len (view p) c → ((at q b ≡ ─) ⊎ (at q b ≡ ┬)) × (at q (b - 1) ≡ 32) =
+        λ q f h. (shown-or q b (omega arith) (omega arith) (bend-bar len marks ok (view p) L P m c k q (omega arith) h (free q f)), over e x x₀ free q f (omega arith)) in
+        let bar-own : (q : ℕ) → x < q → q ≤ lineOf len (view p) c → Q q b = λ q f h. on q b (R.bar c k e (omega arith) h refl) in
         then ok at w Q (slides ok at w Q (suc x) (lineOf len (view p) c) b (omega arith) bar (λ q f h. bar-own q f h))
-        (once ok at w Q (turns-up ok at w Q x b root (foot (b - 1) (omega arith) (omega arith) ∙ rw (ne-eqb (b - 1) B (λ n. omega arith)) (unfold pick in refl)))
-        (bar-own (suc x) (omega arith) (omega arith)) (own b (omega arith) (omega arith))) in
-        let there = then ok at w Q turned back in
+        (once ok at w Q (turns-up ok at w Q x b root line) (bar-own (suc x) (omega arith) (omega arith)) own)
+
+    bent-walk : P .column < c .column → (x : ℕ) → l ≤ x → x ≤ l + 1 → at x b ≡ ╰ → ((y : ℕ) → B ≤ y → y < b → at x y ≡ pick (eqb y B) ┬ │)
+        → ((q : ℕ) → x < q → q ≡ l + 1 → (d : Cell) → Child (view p) (P .row) (P .column) d → d .column ≡ P .column → ⊥)
+        → ((y : ℕ) → B ≤ y → y ≤ b → Q x y) → Ends
+    bent-walk e x x₀ x₁ root foot free own =
+        let u = up-to in
+        let g = above len marks (view p) (laid t .proper-view) (P .row) P m refl in
+        let apart = further e in
+        let first = turned e in
+        let there =
+        then ok at w Q first
+        (back e x x₀ x₁ root (foot (b - 1) (omega arith) (omega arith) ∙ rw (ne-eqb (b - 1) B (λ n. omega arith)) (unfold pick in refl)) free (own b (omega arith) (omega arith))) in
         let way = then ok at w Q there (foot-up x x₀ x₁ foot own) in
         record {
           x = x;
@@ -214,7 +238,7 @@ module _ (len : List ℕ → ℕ) (marks : Marks) (ok : Lawful len marks) {p : L
           mark = foot B (omega arith) (omega arith) ∙ rw (eq-eqb B B refl) (unfold pick in refl);
           end = ended ok at w Q (omega arith) way;
           straight = λ z. absurd (omega arith);
-          bend = λ h. record { turn = _; leftward = turned .to; corner = root; return = _; upward = there .to };
+          bend = λ h. record { turn = _; leftward = first .to; corner = root; return = _; upward = there .to };
           along = always ok at w Q way;
         }
 

@@ -22,16 +22,16 @@ use Rattle.marks.specs.Lawful.{Lawful}
 use Rattle.marks.proofs.Places.{Proper, placed, row, column, same-column}
 use Rattle.marks.proofs.Lines.{under, above, same-line}
 use Rattle.marks.proofs.Facts.{mid-row-one}
+use Rattle.explain.proofs.Titles.{one-place}
 use Rattle.one_parent.specs.Parent.{parentOf, AllTitled, cellOf}
 use Rattle.one_parent.specs.Owner.{Owner, axis, rowIndex, columnIndex, box, connector, Owns}
 use Rattle.one_parent.specs.OneParent as S
 use Rattle.one_parent.specs.OneParent.{InBox, Shared}
-use Rattle.one_parent.proofs.Nodes.{laid, cell-in, same-node}
+use Rattle.one_parent.proofs.Nodes.{laid, cell-in}
 use Rattle.one_parent.proofs.Parents.{Child, next-least, one-parent}
 use Rattle.one_parent.proofs.Boxes.{boxes-apart}
 use Rattle.one_parent.proofs.Foot.{foot-line, foot-next}
 use Rattle.one_parent.proofs.Bend.{head-line}
-use Rattle.one_parent.proofs.Leads.{seen}
 use Rattle.one_parent.proofs.Reach.{Reach, stem, foot, bar, head, axis-at, row-index-at, column-index-at, box-at, connector-at}
 
 module _ (len : List ℕ → ℕ) (marks : Marks) (ok : Lawful len marks) {p : List Node} (t : AllTitled p) where
@@ -114,7 +114,7 @@ module _ (len : List ℕ → ℕ) (marks : Marks) (ok : Lawful len marks) {p : L
         | yes z ↦ absurd (above-other (cellOf p k) (cellOf p l) m n x y a b z)
         | no z ↦ elim (decLe (suc (depthAt p l)) (depthAt p k)) [ yes w ↦ absurd (above-other (cellOf p l) (cellOf p k) n m x y b a w) | no w ↦ omega arith ]
       ] in
-      same-node p k l e
+      one-place p k l e
       (elim (decLe (suc (columnAt p k)) (columnAt p l)) [
         | yes z ↦ absurd (left-of-other (cellOf p k) (cellOf p l) m n x y a b e z)
         | no z ↦ elim (decLe (suc (columnAt p l)) (columnAt p k)) [ yes w ↦ absurd (left-of-other (cellOf p l) (cellOf p k) n m x y b a (sym e) w) | no w ↦ omega arith ]
@@ -159,7 +159,7 @@ module _ (len : List ℕ → ℕ) (marks : Marks) (ok : Lawful len marks) {p : L
         → Shared len marks p x y (box k) (connector l)
     under-parent e a d f mark =
         let o = placed len marks v pv P n in
-        let z : k ≡ l = same-node p k l e (held (columnAt p l) (omega arith) (omega arith)) in
+        let z : k ≡ l = one-place p k l e (held (columnAt p l) (omega arith) (omega arith)) in
         let y-is : y ≡ boxBottom v P = omega (arith, b .to-bottom, ap (λ (q : ℕ). boxBottom v (cellOf p q)) z) in
         rw z (S.foot l a d y-is (mark (sym y-is)))
 
@@ -180,7 +180,7 @@ module _ (len : List ℕ → ℕ) (marks : Marks) (ok : Lawful len marks) {p : L
         let L = laid t in
         let s = above len marks v pv (depthAt p l) P n refl in
         rw (a, ← e)
-        (seen len marks ok t (lineOf len v P) (boxBottom v P) (foot-line len marks ok v L P n c q (boxBottom v P) (omega arith) (omega arith))
+        (foot-line len marks ok v L P n c q (boxBottom v P) (omega arith) (omega arith)
         ∙ rw (eq-eqb (boxBottom v P) (boxBottom v P) refl))
 
     next-mark : (c d : Cell) → Child v (depthAt p l) (columnAt p l) c → columnAt p l < c .column → Child v (depthAt p l) (columnAt p l) d → d .column ≡ columnAt p l
@@ -190,7 +190,7 @@ module _ (len : List ℕ → ℕ) (marks : Marks) (ok : Lawful len marks) {p : L
         let L = laid t in
         let s = above len marks v pv (depthAt p l) P n refl in
         rw (a, ← e)
-        (seen len marks ok t (lineOf len v P + 1) (boxBottom v P) (foot-next len marks ok v L P n c q d r z f (boxBottom v P) (omega arith) (omega arith))
+        (foot-next len marks ok v L P n c q d r z f (boxBottom v P) (omega arith) (omega arith)
         ∙ rw (eq-eqb (boxBottom v P) (boxBottom v P) refl))
 
     head-mark : (c : Cell) → Child v (depthAt p l) (columnAt p l) c → x ≡ lineOf len v c → y ≡ boxTop v c → picture len marks v x y ≡ ┴
@@ -199,11 +199,12 @@ module _ (len : List ℕ → ℕ) (marks : Marks) (ok : Lawful len marks) {p : L
         let L = laid t in
         let u = under len marks v pv (depthAt p l) c (q .cell) (q .below) in
         rw (a, e)
-        (seen len marks ok t (lineOf len v c) (boxTop v c) (head-line len marks ok v L P n c q (boxTop v c) (omega arith) (omega arith))
+        (head-line len marks ok v L P n c q (boxTop v c) (omega arith) (omega arith)
         ∙ rw (eq-eqb (boxTop v c) (boxTop v c) refl))
 
-    shared : Reach len marks v P x y → Shared len marks p x y (box k) (connector l)
-    shared (stem c q e a d f) =
+    -- on the line to a child in the parent's own column
+    by-stem : (c : Cell) → Child v (depthAt p l) (columnAt p l) c → c .column ≡ columnAt p l → x ≡ lineOf len v P → boxBottom v P ≤ y → y ≤ boxTop v c → Shared len marks p x y (box k) (connector l)
+    by-stem c q e a d f =
         let s = same-line len marks v pv c P e in
         elim (decLe (suc (depthAt p k)) (depthAt p l)) [
           | yes z ↦ absurd (not-above z d)
@@ -217,7 +218,12 @@ module _ (len : List ℕ → ℕ) (marks : Marks) (ok : Lawful len marks) {p : L
                     ]
               ]
         ]
-    shared (foot c q e a d f) =
+
+    -- on the parent's foot
+    by-foot : (c : Cell) → Child v (depthAt p l) (columnAt p l) c → columnAt p l < c .column
+        → (x ≡ lineOf len v P) ⊎ ((x ≡ lineOf len v P + 1) × ((s : Cell) × Child v (depthAt p l) (columnAt p l) s × (s .column ≡ columnAt p l)))
+        → boxBottom v P ≤ y → y ≤ bendRow v (depthAt p l) → Shared len marks p x y (box k) (connector l)
+    by-foot c q e a d f =
         elim (decLe (suc (depthAt p k)) (depthAt p l)) [
           | yes z ↦ absurd (not-above z d)
           | no z ↦
@@ -231,7 +237,10 @@ module _ (len : List ℕ → ℕ) (marks : Marks) (ok : Lawful len marks) {p : L
                     a
               ]
         ]
-    shared (bar c q e a d f) =
+
+    -- on its bend row there is no box
+    by-bar : (c : Cell) → Child v (depthAt p l) (columnAt p l) c → columnAt p l < c .column → lineOf len v P < x → x ≤ lineOf len v c → y ≡ bendRow v (depthAt p l) → Shared len marks p x y (box k) (connector l)
+    by-bar c q e a d f =
         let s = above len marks v pv (depthAt p l) P n refl in
         elim (decLe (suc (depthAt p l)) (depthAt p k)) [
           | yes z ↦ absurd (not-under-bend z (omega arith))
@@ -241,7 +250,10 @@ module _ (len : List ℕ → ℕ) (marks : Marks) (ok : Lawful len marks) {p : L
                 | no r ↦ absurd (not-above (omega arith) (omega arith))
               ]
         ]
-    shared (head c q e a d f) =
+
+    -- on the line to a child further right
+    by-head : (c : Cell) → Child v (depthAt p l) (columnAt p l) c → columnAt p l < c .column → x ≡ lineOf len v c → bendRow v (depthAt p l) < y → y ≤ boxTop v c → Shared len marks p x y (box k) (connector l)
+    by-head c q e a d f =
         let s = above len marks v pv (depthAt p l) P n refl in
         elim (decLe (suc (depthAt p l)) (depthAt p k)) [
           | yes z ↦
@@ -255,6 +267,12 @@ module _ (len : List ℕ → ℕ) (marks : Marks) (ok : Lawful len marks) {p : L
                 | no r ↦ absurd (not-above (omega arith) (omega arith))
               ]
         ]
+
+    shared : Reach len marks v P x y → Shared len marks p x y (box k) (connector l)
+    shared (stem c q e a d f) = by-stem c q e a d f
+    shared (foot c q e a d f) = by-foot c q e a d f
+    shared (bar c q e a d f) = by-bar c q e a d f
+    shared (head c q e a d f) = by-head c q e a d f
 
   -- ---- any two
   -- where a point is: 0 the head, 1 the axis, 2 the margin, 3 the field; and where an owner's points are

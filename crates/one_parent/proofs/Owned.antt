@@ -18,9 +18,10 @@ use Rattle.rules.proofs.Tests.{neither}
 use Rattle.marks.proofs.Wired.{any-some}
 use Rattle.marks.proofs.Places.{mem-inRow}
 use Rattle.marks.proofs.Text.{concat-mem}
+use Rattle.marks.proofs.Points.{each-mem}
 use Rattle.one_parent.specs.Parent.{AllTitled}
 use Rattle.one_parent.specs.Owner.{Owner, axis, rowIndex, columnIndex, box, connector, touches, drawnOn, Owns}
-use Rattle.one_parent.proofs.Nodes.{each-mem, cell-node}
+use Rattle.one_parent.proofs.Nodes.{cell-node}
 use Rattle.one_parent.proofs.Parents.{any-mem}
 
 -- a stroke that is not drawn on a point leaves it as it is

@@ -20,8 +20,10 @@ use Rattle.rules.proofs.Keeps.{kept-mem}
 use Rattle.rules.proofs.Firsts.{first-most, first-holds, first-before}
 use Rattle.marks.proofs.Places.{mem-inRow}
 use Rattle.marks.proofs.Wired.{any-some}
+use Rattle.marks.proofs.Plans.{columns-order, columns-stay}
+use Rattle.explain.proofs.Titles.{one-place}
 use Rattle.one_parent.specs.Parent.{last, parentOf, AllTitled, cellOf}
-use Rattle.one_parent.proofs.Nodes.{laid, cell-in, cell-node, columns-order, columns-stay, same-node}
+use Rattle.one_parent.proofs.Nodes.{laid, cell-in, cell-node}
 
 -- ---- the last place of a test
 pub last-is : (t : ℕ → Bool) (n l : ℕ) → l < n → t l ≡ true → ((m : ℕ) → l < m → m < n → t m ≡ false) → last t n ≡ l
@@ -161,7 +163,7 @@ module _ {p : List Node} (t : AllTitled p) where
       let w = parent k h d in
       let u = drawn-under k h d in
       let e : depthAt p l ≡ depthAt p q = omega (arith, c .below, w .one-less) in
-      same-node p l q e
+      one-place p l q e
       (elim (decLe (suc (columnAt p l)) (columnAt p q)) [
         | yes z ↦ absurd (omega (arith, next-least (view p) (depthAt p l) (columnAt p l) (cellOf p q) (cell-in t q (omega (arith, w .before))) (sym e) z, c .before-next, u .from-parent))
         | no z ↦ elim (decLe (suc (columnAt p q)) (columnAt p l)) [ yes y ↦ absurd (omega (arith, next-least (view p) (depthAt p q) (columnAt p q) (cellOf p l) (cell-in t l g) e y, u .before-next, c .from-parent)) | no y ↦ omega arith ]

@@ -24,9 +24,9 @@ use Rattle.rules.proofs.Firsts.{first-most}
 use Rattle.rules.proofs.Lists.{each-at}
 use Rattle.rules.proofs.Replaced.{replaced-length, replaced-at, replaced-depth, fine-standin, shown-some}
 use Rattle.marks.proofs.Tests.{Drawable, drawable-of, first-all, ruled}
+use Rattle.marks.proofs.Points.{each-mem}
 use Rattle.one_parent.specs.Parent.{last, parentOf, AllTitled}
 use Rattle.one_parent.specs.Drawn.{NoneEmpty}
-use Rattle.one_parent.proofs.Nodes.{each-mem}
 
 -- ---- one test
 pub passed : (b : Bool) (a next : Answer) → done a ≡ false → done (pick b a next) ≡ true → (b ≡ false) × (pick b a next ≡ next)

@@ -4,18 +4,18 @@ use mathlib.Core.Path.{_≡_, refl, ap, sym, _∙_}
 use mathlib.Core.List.{List, [], _∷_, _++_, List·Memᴰ, List·Memᴰ·head, List·Memᴰ·tail, List·Memᴰ·cases-cons, List·Memᴰ·append-cases, List·Memᴰ·not-nil, Memᴰ·append-left, Memᴰ·append-right}
 use mathlib.Core.Bool.{Bool, true, false, _&&_, false≢true, _||_}
 use mathlib.Core.Logic.{⊎-elim, _⊎_, inl, inr}
-use Prim.Native.Nat.{ℕ, suc, _+_, _-_, _≤_, _<_}
+use Prim.Native.Nat.{ℕ, suc, zero, _+_, _-_, _≤_, _<_}
 use native.Mathlib.Decide.{decLe, ℕ-discrete}
 use native.Mathlib.Omega.{arith}
-use lib.ListN.{length}
+use lib.ListN.{length, getD}
 use lib.Dec.{leb, ltb, eqb}
 use borrow.Author.Tests.{eq-eqb, ne-eqb, eqb-true, le-leb, leb-true, lt-ltb, ltb-true}
 use Rattle.rules.specs.Measures as M
 use Rattle.rules.specs.Drawing as D
-use Rattle.rules.specs.Base.{pick, keep, any, concat}
+use Rattle.rules.specs.Base.{pick, keep, any, concat, each}
 use Rattle.rules.specs.Utf8.{points}
 use Rattle.rules.specs.Levels.{Cell, View, children}
-use Rattle.rules.specs.Measures.{linesIn, longest, columnOffset, width}
+use Rattle.rules.specs.Measures.{linesIn, lineCount, longest, columnOffset, width}
 use Rattle.rules.specs.Strokes.{Stroke, across, down, write, dot}
 use Rattle.rules.specs.Drawing.{Marks, boxLeft, boxTop, boxBottom, lineOf, bendRow, frame}
 use Rattle.rules.proofs.Tests.{both}
@@ -25,13 +25,11 @@ use Rattle.rules.proofs.Columns.{offset-after}
 use Rattle.rules.proofs.Digits.{digits-grow}
 use Rattle.marks.specs.Lawful.{Lawful}
 use Rattle.marks.specs.Whole.{indexAt}
-use Rattle.marks.specs.Picture.{labels}
-use Rattle.marks.specs.Picture as Pic
 use Rattle.marks.proofs.Places.{Proper, placed}
-use Rattle.marks.proofs.Boxes.{line-room}
+use Rattle.marks.proofs.Points.{getD-mem}
+use Rattle.marks.proofs.Boxes.{line-room, label-is}
 use Rattle.marks.proofs.Facts.{index-in}
 use Rattle.marks.proofs.Lines.{under, above, same-line}
-use Rattle.marks.proofs.Wired.{box-same}
 use Rattle.marks.proofs.Text.{concat-mem}
 use Rattle.one_parent.specs.Owner.{touches, drawnOn}
 use Rattle.one_parent.proofs.Parents.{Child, child, child-in}
@@ -97,6 +95,11 @@ by-each f l {x} {y} g =
           g (u .0) (u .1) .so (mem-drawn (f (u .0)) x y (u .2) (w .2)));
     }
 
+pub by-index : {C : Type 0} (f : ℕ → List Stroke) (n : ℕ) {x y : ℕ} → ((k : ℕ) → k < n → Shows C (f k) x y) → Shows C (each f n) x y
+unfolding each
+by-index f zero g = nothing
+by-index f (suc n) g = by-both (by-index f n (λ k h. g k (omega arith))) (g n (omega arith))
+
 -- ---- some strokes are drawn on (x, y)
 pub record Drawn (ss : List Stroke) (x y : ℕ) : Type 0 where
   pub is : drawnOn ss x y ≡ true
@@ -158,23 +161,17 @@ module _ (len : List ℕ → ℕ) (marks : Marks) (v : View) where
       (by-across (λ e a b. omega arith)
       (by-across (λ e a b. omega arith) nothing)))))))
 
-  labels-at : (X Y t : ℕ) (ls : List (List ℕ)) → ((l : List ℕ) → List·Memᴰ l ls → length (points l) ≤ t) → (x y : ℕ)
-      → Shows ((X ≤ x) × (x < X + t) × (Y ≤ y) × (y < Y + length ls)) (labels X Y ls) x y
-  unfolding Pic.labels
-  labels-at X Y t [] f x y = nothing
-  labels-at X Y t (l ∷ ls) f x y =
-      by-write (λ e a b. omega (arith, f l (List·Memᴰ·head refl)))
-      (record { so = λ e. (let w = labels-at X (Y + 1) t ls (λ k m. f k (List·Memᴰ·tail m)) x y .so e in omega arith) })
+  label-at : Lawful len marks → Proper v → (c : Cell) → List·Memᴰ c (v .cells) → (r : ℕ) → r < lineCount c → (x y : ℕ)
+      → Shows (Within (boxLeft len v c) (boxTop v c) (longest len c) (lineCount c) x y) (D.label len marks v c r) x y
+  label-at ok pv c m r h x y =
+      rw (label-is len marks v pv c m r) (by-write (λ e a b. omega (arith, line-room len marks ok c (getD (linesIn c) r []) (getD-mem [] (linesIn c) r h))) nothing)
 
   pub box-at : Lawful len marks → Proper v → (c : Cell) → List·Memᴰ c (v .cells) → (x y : ℕ)
-      → Shows (Within (boxLeft len v c) (boxTop v c) (longest len c) (length (linesIn c)) x y) (D.box len marks v c) x y
-  unfolding Pic.box
+      → Shows (Within (boxLeft len v c) (boxTop v c) (longest len c) (lineCount c) x y) (D.box len marks v c) x y
+  unfolding D.box
   box-at ok pv c m x y =
-      rw (box-same len marks v pv c m)
-      (by-both (frame-at (boxLeft len v c) (boxTop v c) (longest len c) (length (linesIn c)) x y)
-      (record {
-        so = λ e. (let w = labels-at (boxLeft len v c + 2) (boxTop v c + 1) (longest len c) (linesIn c) (line-room len marks ok c) x y .so e in omega arith);
-      }))
+      by-both (frame-at (boxLeft len v c) (boxTop v c) (longest len c) (lineCount c) x y)
+      (by-index (D.label len marks v c) (lineCount c) (λ r h. label-at ok pv c m r h x y))
 
   -- ---- a connector of the parent P
   pub data Reach (P : Cell) (x y : ℕ) : Type 0 where

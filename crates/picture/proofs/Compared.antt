@@ -15,7 +15,7 @@ use Rattle.rules.specs.Reader.{ended, pictureLines, pictureWidth, Draws}
 use Rattle.rules.proofs.Candidate.{at}
 use Rattle.marks.specs.Lawful.{Lawful}
 use Rattle.marks.specs.Numbers.{Pictured}
-use Rattle.marks.proofs.Wired.{any-none}
+use Rattle.rules.proofs.Lists.{any-none}
 use Rattle.marks.proofs.Tests.{ordinary-plan, valid-title}
 use Rattle.marks.proofs.Accepted.{accept, compares}
 use Rattle.marks.proofs.Delivered.{drawn-wide}

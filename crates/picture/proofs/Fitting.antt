@@ -1,6 +1,6 @@
 -- In the picture of an ordinary plan each box that is found stands where a drawing has it: its middle is its column's centre, and it is
 -- as wide as its longest line asks for. So where one does not, or a title is empty or too long, or there are too many, no plan was drawn.
-use mathlib.Core.Path.{_≡_, subst}
+use mathlib.Core.Path.{_≡_, ap, subst}
 use mathlib.Core.List.{List, [], List·Memᴰ}
 use mathlib.Core.Bool.{true, not, _&&_}
 use Prim.Native.Nat.{ℕ, _+_, _-_, _≤_, _<_}
@@ -23,17 +23,15 @@ use Rattle.rules.specs.Reader.{pictureLines, pictureWidth, placed, canvasRead, 
 use Rattle.rules.proofs.CharsBack.{both}
 use Rattle.rules.proofs.Candidate.{at, trim, next, marked, outside, bandOf, found, planFound}
 use Rattle.marks.specs.Lawful.{Lawful}
-use Rattle.marks.specs.Picture.{textOf}
-use Rattle.marks.specs.Plan.{cells, nodeView}
 use Rattle.marks.proofs.Places.{placed as box-placed}
-use Rattle.marks.proofs.Back.{cell-from}
-use Rattle.marks.proofs.Plans.{leaves-few}
-use Rattle.marks.proofs.Same.{view-same}
-use Rattle.marks.proofs.Text.{Held, text-of-same, text-shown}
+use Rattle.marks.proofs.Back.{columns-few}
+use Rattle.marks.proofs.Plans.{node-mem, cell-from}
+use Rattle.marks.proofs.Text.{Held, text-shown}
 use Rattle.marks.proofs.Tests.{Ordinary-plan, ordinary-plan, ordinary-laws, valid-title, good-title}
 use Rattle.marks.proofs.Picture.{Laid, laid, titles-held}
 use Rattle.marks.proofs.Delivered.{drawn-wide, drawn-high}
-use Rattle.marks.proofs.Reading.{Shown, Right-outside, getD-mem, framed, framed-left, framed-right, outside-is, top-is, band-is, found-is}
+use Rattle.marks.proofs.Points.{getD-mem}
+use Rattle.marks.proofs.Reading.{Shown, Right-outside, framed, framed-left, framed-right, outside-is, top-is, band-is, found-is}
 use Rattle.picture_sight.specs.Seen.{seen, leftSide, rightSide}
 use Rattle.picture_sight.specs.Plan.{planSeen, cellsSeen}
 use Rattle.picture_gather.specs.Gathered.{cellSeen, Misfit, many, untitled, long, beside, loose}
@@ -82,17 +80,16 @@ module _ (look : Look) (ok : Lawful (look .len) (look .marks)) where
     g = at (pictureLines (text len marks p))
 
     shown : Shown len marks (view p) g
-    unfolding g
-    shown =
-        let e : text len marks p ≡ textOf len marks (view p) = unfold D.text in text-of-same len marks (view p) (L .proper-view) (L .rising-view) (L .few-rows) in
-        rw e (text-shown len marks ok (view p) (L .proper-view) held-all)
+    unfolding g D.text
+    shown = text-shown len marks ok (view p) (L .proper-view) held-all
 
     clean : (c : Cell) → List·Memᴰ c (view p .cells) → (l : List ℕ) → List·Memᴰ l (linesIn c) → (concat utf8 (points l) ≡ l) × (trim (points l) ≡ points l)
     clean c m l i =
-        let f = cell-from 0 p c (unfold nodeView cells in (rw (view-same len marks p) at m)) in
+        let f = cell-from p c m in
+        let n = node-mem p (f .0) (f .1) in
         let pl = ordinary-laws look p o .plain in
-        let j = rw (f .2) at i in
-        (pl .valid (f .0) (f .1) l j, pl .trimmed (f .0) (f .1) l j)
+        let j = rw (ap linesOf (f .2 .title-is)) at i in
+        (pl .valid (nodeAt p (f .0)) n l j, pl .trimmed (nodeAt p (f .0)) n l j)
 
     W : ℕ
     W = canvasWidth len (view p)
@@ -101,7 +98,7 @@ module _ (look : Look) (ok : Lawful (look .len) (look .marks)) where
     H = canvasHeight (view p)
 
     few-columns : view p .columns ≤ 256
-    few-columns = rw (view-same len marks p) (unfold nodeView in omega (arith, leaves-few p, q .drawable .sized))
+    few-columns = columns-few p (q .drawable .sized)
 
     ro : Right-outside len marks ok (view p) (L .proper-view) (L .rising-view) g shown (outside g W H)
     unfolding W H

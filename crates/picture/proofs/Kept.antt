@@ -27,7 +27,7 @@ use Rattle.rules.proofs.Candidate.{from, trim, joined, next, marked, lineAt, li
 use Rattle.marks.specs.Lawful.{Lawful}
 use Rattle.marks.proofs.Reader.{back}
 use Rattle.marks.proofs.Delivered.{drawn-valid, drawn-ended}
-use Rattle.marks.proofs.Reading.{getD-mem}
+use Rattle.marks.proofs.Points.{getD-mem}
 use Rattle.marks.proofs.Text.{concat-mem, trim-mem}
 use Rattle.marks.proofs.Titles.{line-mem}
 use Rattle.marks.proofs.Tests.{ordinary-plan, valid-title}

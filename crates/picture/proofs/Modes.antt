@@ -9,7 +9,7 @@ use lib.Dec.{eqb}
 use lib.ListN.{length, getD}
 use Rattle.rules.specs.Base.{concat, each}
 use Rattle.rules.specs.Lines.{linesOf}
-use Rattle.rules.specs.Plan.{Node}
+use Rattle.rules.specs.Plan.{Node, nodeAt}
 use Rattle.rules.specs.Levels.{Cell, View, view, inRow, inColumn}
 use Rattle.rules.specs.Measures.{linesIn, lineCount, longest, width, columnOffset, columnCentre, canvasWidth, cx, area}
 use Rattle.rules.specs.Strokes.{Stroke}
@@ -21,10 +21,8 @@ use Rattle.rules.specs.declared.Measure.{Measure}
 use Rattle.rules.specs.declared.Profile.{Profile}
 use Rattle.rules.proofs.Keeps.{kept-mem}
 use Rattle.rules.proofs.Text.{each-same}
-use Rattle.marks.specs.Plan.{cells, nodeView}
 use Rattle.marks.proofs.Order.{concat-same}
-use Rattle.marks.proofs.Back.{cell-from}
-use Rattle.marks.proofs.Same.{view-same}
+use Rattle.marks.proofs.Plans.{node-mem, cell-from}
 use Rattle.utf8.proofs.Ascii.{plain-points}
 use Rattle.text.proofs.Counted.{greatest-same}
 use Rattle.levels.proofs.Plans.{total-same}
@@ -103,8 +101,8 @@ module _ (p : List Node) (a : Plain p) where
   agrees : (m : Measure) (marks : Marks) (c : Cell) → List·Memᴰ c (view p .cells) → longest (lenOf m) c ≡ longest length c
   unfolding longest
   agrees m marks c i =
-      let f = cell-from 0 p c (unfold nodeView cells in (rw (view-same length marks p) at i)) in
-      greatest-same (lenOf m) length (linesIn c) (λ l q. length-same m l (a .low (f .0) (f .1) l (rw (f .2) at q)))
+      let f = cell-from p c i in
+      greatest-same (lenOf m) length (linesIn c) (λ l q. length-same m l (a .low (nodeAt p (f .0)) (node-mem p (f .0) (f .1)) l (rw (ap linesOf (f .2 .title-is)) at q)))
 
   -- so the two drawings are one
   pub drawn-alike : (m : Measure) (marks : Marks) → text (lenOf m) marks p ≡ text length marks p

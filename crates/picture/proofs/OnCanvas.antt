@@ -20,7 +20,7 @@ use Rattle.rules.proofs.CharsBack.{both}
 use Rattle.rules.proofs.Lists.{le-greatest}
 use Rattle.rules.proofs.Scalars.{points-scalar}
 use Rattle.rules.proofs.Candidate.{at, candidate, planFound}
-use Rattle.marks.proofs.Reading.{getD-mem}
+use Rattle.marks.proofs.Points.{getD-mem}
 use Rattle.marks.proofs.Text.{Held}
 use Rattle.marks.proofs.Titles.{line-mem}
 use Rattle.picture_lay.proofs.Pictures.{body-valid}

@@ -64,14 +64,10 @@ pub(crate) fn deliver(
     ensures { λ r. ⌜ ((p : List Node) → Told (seen (now (cells .entry)) width height) (now (found .entry)) (now (cy .entry)) (now (middle .entry)) (now (lines .entry)) (now (longest .entry)) p nodes
         → Delivers p (now (table .entry)) (now (titles .entry)) r (now (table .exit)) (now (titles .exit))) ⌝ }
 {
-    let entries = found.len();
-    if table.len() < entries {
-        return Reading::Room(entries);
+    let wanted = delivery::deliver(found, bytes, titles.len(), table);
+    if wanted > 0 {
+        return Reading::Room(wanted);
     }
-    if titles.len() < bytes {
-        return Reading::Room(bytes);
-    }
-    delivery::give_table(found, table);
     give_titles(
         cells,
         width,

@@ -18,8 +18,8 @@ use Rattle.rules.proofs.Candidate.{Outside, from, outside, foundAt, found, plan
 use Rattle.levels.specs.Between.{cellOf}
 use Rattle.marks.proofs.Back.{nodeOf}
 use Rattle.marks.proofs.Picture.{Laid, laid}
-use Rattle.marks.proofs.Points.{mem-from}
-use Rattle.marks.proofs.Reading.{Shown, Right-outside, outside-is, found-is, getD-mem}
+use Rattle.marks.proofs.Points.{mem-from, getD-mem}
+use Rattle.marks.proofs.Reading.{Shown, Right-outside, outside-is, found-is}
 use Rattle.marks.proofs.Text.{concat-mem}
 use Rattle.marks.proofs.Whole as Points
 use Rattle.picture_sight.specs.Seen.{seen}

@@ -13,14 +13,10 @@ use Rattle.rules.specs.Levels.{Cell}
 use Rattle.rules.specs.Measures.{lineCount}
 use Rattle.rules.specs.Drawing.{Marks}
 use Rattle.rules.proofs.Candidate.{from, next, marked, joined, lineAt, Outside, linesAt, foundAt, rowFrom, bandOf}
+use Rattle.text.proofs.Counted.{greatest-append}
 use Rattle.marks.proofs.Text.{length-from}
 use Rattle.picture_sight.specs.Seen.{boxLines, cellLines, mostLines, bandSeen, leftSide, rightSide}
 use Rattle.picture_sight.proofs.Split.{Open, joined-split, line-open, map-all}
-
-greatest-append : {A : Type 0} (f : A → ℕ) (l m : List A) → greatest f (l ++ m) ≡ max (greatest f l) (greatest f m)
-unfolding greatest
-greatest-append f [] m = omega arith
-greatest-append f (a ∷ l) m = omega (arith, greatest-append f l m)
 
 greatest-concat : {A B : Type 0} (f : B → ℕ) (h : A → List B) (l : List A) → greatest f (concat h l) ≡ greatest (λ a. greatest f (h a)) l
 unfolding greatest concat

@@ -21,7 +21,7 @@ use Rattle.levels.specs.Between.{cellOf}
 use Rattle.levels.proofs.Shown.{shows}
 use Rattle.marks.specs.Spot as Rules
 use Rattle.marks.proofs.Boxes.{line-room}
-use Rattle.marks.proofs.Reading.{getD-mem}
+use Rattle.marks.proofs.Points.{getD-mem}
 use Rattle.marks.proofs.Spots.{Boxed}
 use Rattle.tree_view.specs.Box.{topOf, bottomOf}
 use Rattle.tree_view.proofs.Boxes.{cell-lines, cell-longest}

@@ -45,48 +45,59 @@ module _ {len : List ℕ → ℕ} {marks : Marks} {p : List Node} {w h : ℕ} {T
   apart : (from : List ℕ) (j v m : ℕ) → (m ≡ j → ⊥) → getD (set from j v) m 0 ≡ getD from m 0
   apart from j v m f = getD-set-other from j m v 0 f
 
+  -- a column where no cell is
+  none-more : (j : ℕ) {row from : List ℕ} {over over′ : Bool} → j < ncols → Upto j over row from → over′ ≡ seenTo (r .above) (j + 1) → getD (r .here) j 0 ≡ 0 → Upto (j + 1) over′ row from
+  none-more j {row} {from} b a s z =
+      record {
+        upto = omega arith;
+        seen = s;
+        as-long = a .as-long;
+        shown = none-put q i r y u j b z low row (a .shown);
+        sized = a .sized;
+        passed =
+            λ m g.
+            elim (ℕ-discrete m j) [
+              | yes o ↦ (λ f. absurd (f (ap (λ (x : ℕ). getD (r .here) x 0) o ∙ z)))
+              | no o ↦ a .passed m (omega arith)
+            ];
+        ahead = λ m g d. a .ahead m (omega arith) d;
+      }
+
+  -- and where one is, whose part is put
+  abbrev PutAt : ℕ → Bool → List ℕ → List ℕ → List ℕ → List ℕ → Type 0
+  PutAt j over′ row from row′ from′ =
+      Put marks (spotOf true over′ (some (r .next) j) (some (r .on) j) (r .bend) (getD cx j 0) (r .middle) (getD L (getD (r .here) j 0 - 1) 0) (getD G (getD (r .here) j 0 - 1) 0)) y
+      (nodeAt p (getD (r .here) j 0 - 1) .title) j row from row′ from′
+
+  cell-more : (j : ℕ) {row from row′ from′ : List ℕ} {over over′ : Bool} → j < ncols → Upto j over row from → over′ ≡ seenTo (r .above) (j + 1) → length row′ ≡ length row
+      → (getD (r .here) j 0 ≡ 0 → ⊥) → PutAt j over′ row from row′ from′ → Upto (j + 1) over′ row′ from′
+  cell-more j {row} {from} {row′} {from′} b a s l z cell =
+      let put = rw (s ∙ ap (seenTo (r .above)) (add-one j)) at cell in
+      let c = a .ahead j (omega arith) b in
+      record {
+        upto = omega arith;
+        seen = s;
+        as-long = omega (arith, a .as-long);
+        shown = cell-put q i r y u j b z (getD from j 0) c low row from row′ from′ refl put (a .shown);
+        sized = ap length (put .moved) ∙ simp length-set (a .sized);
+        passed =
+            λ m g.
+            elim (ℕ-discrete m j) [
+              | yes o ↦ rw o (cursor-step q i r y u j b z (getD from j 0) c row from row′ from′ refl (omega (arith, a .sized, q .numbers .columns-are, columns-le p (q .small))) put)
+              | no o ↦ rw (put .moved, apart from j _ m o) (a .passed m (omega arith))
+            ];
+        ahead = λ m g d. rw (put .moved, apart from j _ m (λ o. omega arith)) (a .ahead m (omega arith) d);
+      }
+
   pub column-more : (j : ℕ) {row from row′ from′ : List ℕ} {over over′ : Bool} → j < ncols → Upto j over row from → over′ ≡ (over || some (r .above) j) → length row′ ≡ length row
       → (getD (r .here) j 0 ≡ 0 → (row′ ≡ row) × (from′ ≡ from))
-      → ((getD (r .here) j 0 ≡ 0 → ⊥) → Put marks (spotOf true over′ (some (r .next) j) (some (r .on) j) (r .bend) (getD cx j 0) (r .middle) (getD L (getD (r .here) j 0 - 1) 0) (getD G (getD (r .here) j 0 - 1) 0)) y
-      (nodeAt p (getD (r .here) j 0 - 1) .title) j row from row′ from′)
+      → ((getD (r .here) j 0 ≡ 0 → ⊥) → PutAt j over′ row from row′ from′)
       → Upto (j + 1) over′ row′ from′
   column-more j {row} {from} {row′} {from′} {over} {over′} b a e l none cell =
       let s : over′ ≡ seenTo (r .above) (j + 1) = e ∙ seen-step (r .above) j over (a .seen) in
       elim (ℕ-discrete (getD (r .here) j 0) 0) [
-        | yes z ↦
-            (let n = none z in
-            rw (n .0, n .1)
-            (record {
-              upto = omega arith;
-              seen = s;
-              as-long = a .as-long;
-              shown = none-put q i r y u j b z low row (a .shown);
-              sized = a .sized;
-              passed =
-                  λ m g.
-                  elim (ℕ-discrete m j) [
-                    | yes o ↦ (λ f. absurd (f (ap (λ (x : ℕ). getD (r .here) x 0) o ∙ z)))
-                    | no o ↦ a .passed m (omega arith)
-                  ];
-              ahead = λ m g d. a .ahead m (omega arith) d;
-            }))
-        | no z ↦
-            (let put = rw (s ∙ ap (seenTo (r .above)) (add-one j)) at (cell z) in
-            let c = a .ahead j (omega arith) b in
-            record {
-              upto = omega arith;
-              seen = s;
-              as-long = omega (arith, a .as-long);
-              shown = cell-put q i r y u j b z (getD from j 0) c low row from row′ from′ refl put (a .shown);
-              sized = ap length (put .moved) ∙ simp length-set (a .sized);
-              passed =
-                  λ m g.
-                  elim (ℕ-discrete m j) [
-                    | yes o ↦ rw o (cursor-step q i r y u j b z (getD from j 0) c row from row′ from′ refl (omega (arith, a .sized, q .numbers .columns-are, columns-le p (q .small))) put)
-                    | no o ↦ rw (put .moved, apart from j _ m o) (a .passed m (omega arith))
-                  ];
-              ahead = λ m g d. rw (put .moved, apart from j _ m (λ o. omega arith)) (a .ahead m (omega arith) d);
-            })
+        | yes z ↦ (let n = none z in rw (n .0, n .1) (none-more j b a s z))
+        | no z ↦ cell-more j b a s l z (cell z)
       ]
 
   pub all-columns : {row from : List ℕ} {over : Bool} {j : ℕ} → j ≡ ncols → Upto j over row from

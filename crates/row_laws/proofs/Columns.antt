@@ -12,7 +12,7 @@ use Rattle.rules.specs.Utf8.{points}
 use Rattle.rules.specs.Plan.{Node}
 use Rattle.rules.specs.Levels.{Cell, view}
 use Rattle.rules.specs.Measures.{linesIn, lineCount, longest}
-use Rattle.rules.specs.Drawing.{Marks, boxLeft, boxTop}
+use Rattle.rules.specs.Drawing.{Marks, boxLeft, boxTop, picture}
 use Rattle.marks.specs.Spot.{Spot, spotMark}
 use Rattle.marks.specs.Whole.{markAt}
 use Rattle.marks.specs.Numbers.{Lettered}
@@ -39,13 +39,13 @@ module _ {len : List ℕ → ℕ} {marks : Marks} {p : List Node} {w h : ℕ} {T
   drawn = laid len marks p (q .drawable)
 
   -- the letters stand where the titles have them
-  pub lettered : Lettered len (view p) (F.painted len marks (view p))
+  pub lettered : Lettered len (view p) (picture len marks (view p))
   lettered c m r k a b = F.inside len marks (view p) (q .lawful) (drawn .proper-view) c m r k a b
 
   module _ (i : ℕ) (hi : i < view p .rows) (r : Row) (o : RowOf T nodes C L ncols cy ys nrows h i r) (j : ℕ) (hj : j < view p .columns)
       (x y : ℕ) (left : columnFrom len (view p) j ≤ x) (right : x < columnFrom len (view p) (j + 1)) (from : r .top ≤ y) (to : y < r .end) where
     abbrev own : ℕ
-    own = F.painted len marks (view p) x y
+    own = picture len marks (view p) x y
 
     spot-mark : markAt len marks (view p) x y ≡ spotMark marks (spotIn r L G cx j) own x y
     spot-mark =
@@ -54,7 +54,7 @@ module _ {len : List ℕ → ℕ} {marks : Marks} {p : List Node} {w h : ℕ} {T
         let et : r .top ≡ rowFrom (view p) i = o .top-is ∙ q .numbers .y-is i hi ∙ sym (d .from-is) in
         let ee : r .end ≡ rowFrom (view p) (i + 1) = o .end-is ∙ row-stop len marks (view p) (q .numbers) i hi in
         mark-block len marks (view p) i j x y hi hj (omega (arith, c .from-is)) (omega (arith, c .to-most)) (omega (arith, d .from-is)) (omega (arith, d .to-most))
-        ∙ sym (spot-field len marks (q .lawful) (view p) (drawn .proper-view) (drawn .rising-view) (drawn .few-rows) (F.painted len marks (view p)) lettered i j (spotIn r L G cx j) (spotted q i j hi hj r o) hi hj x y)
+        ∙ sym (spot-field len marks (q .lawful) (view p) (drawn .proper-view) (drawn .rising-view) (drawn .few-rows) (picture len marks (view p)) lettered i j (spotIn r L G cx j) (spotted q i j hi hj r o) hi hj x y)
 
     -- no cell, above the bend
     pub column-none : getD (r .here) j 0 ≡ 0 → y < r .bend → markAt len marks (view p) x y ≡ 0x20

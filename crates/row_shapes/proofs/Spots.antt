@@ -224,59 +224,70 @@ module _ (marks : Marks) (child on up : Bool) (l bend X Y R B own : ℕ) (inner 
         and-true,
       )
 
-  text-of : (x : ℕ) → textAt x ≡ textMark (marks .│) X R own x
+  -- up to the first place of the title
+  text-before : (x : ℕ) → x ≤ X + 1 → textAt x ≡ textMark (marks .│) X R own x
   unfolding textAt pick
-  text-of x =
+  text-before x h =
       elim (decLe (suc x) X) [
         | yes p ↦ simp (lt-leb X x p) (sym (text-out-left (marks .│) X R own x p))
         | no p ↦
             elim (ℕ-discrete x X) [
               | yes q ↦ simp (le-leb X x (omega arith), le-leb x R (omega arith), eq-eqb x X q) (rw q (sym (text-left (marks .│) X R (omega arith) own)))
               | no q ↦
-                  elim (ℕ-discrete x (X + 1)) [
-                    | yes r ↦
-                        simp (
-                          le-leb X x (omega arith),
-                          le-leb x R (omega arith),
-                          ne-eqb x X q,
-                          ne-eqb x R (λ e. absurd (omega arith)),
-                          lt-leb (X + 2) x (omega arith),
-                        )
-                        (rw r (sym (text-first (marks .│) X R (omega arith) own)))
-                    | no r ↦
-                        elim (decLe (suc (x + 1)) R) [
-                          | yes s ↦
-                              simp (
-                                le-leb X x (omega arith),
-                                le-leb x R (omega arith),
-                                ne-eqb x X q,
-                                ne-eqb x R (λ e. absurd (omega arith)),
-                                le-leb (X + 2) x (omega arith),
-                                lt-ltb (x + 1) R s,
-                              )
-                              (sym (text-own (marks .│) X R (omega arith) own x (omega arith) (omega arith)))
-                          | no s ↦
-                              elim (ℕ-discrete (x + 1) R) [
-                                | yes t ↦
-                                    simp (
-                                      le-leb X x (omega arith),
-                                      le-leb x R (omega arith),
-                                      ne-eqb x X q,
-                                      ne-eqb x R (λ e. absurd (omega arith)),
-                                      le-ltb (x + 1) R (omega arith),
-                                      and-false,
-                                    )
-                                    (sym (text-last (marks .│) X R (omega arith) own x t))
-                                | no t ↦
-                                    elim (ℕ-discrete x R) [
-                                      | yes u ↦
-                                          simp (le-leb X x (omega arith), le-leb x R (omega arith), ne-eqb x X q, eq-eqb x R u)
-                                          (rw u (sym (text-right (marks .│) X R (omega arith) own)))
-                                      | no u ↦ simp (le-leb X x (omega arith), lt-leb x R (omega arith)) (sym (text-out-right (marks .│) X R (omega arith) own x (omega arith)))
-                                    ]
-                              ]
-                        ]
-                  ]
+                  (let r : x ≡ X + 1 = omega arith in
+                  simp (
+                    le-leb X x (omega arith),
+                    le-leb x R (omega arith),
+                    ne-eqb x X q,
+                    ne-eqb x R (λ e. absurd (omega arith)),
+                    lt-leb (X + 2) x (omega arith),
+                  )
+                  (rw r (sym (text-first (marks .│) X R (omega arith) own))))
+            ]
+      ]
+
+  -- and from its last place on
+  text-after : (x : ℕ) → R ≤ x + 1 → textAt x ≡ textMark (marks .│) X R own x
+  unfolding textAt pick
+  text-after x h =
+      elim (ℕ-discrete (x + 1) R) [
+        | yes t ↦
+            simp (
+              le-leb X x (omega arith),
+              le-leb x R (omega arith),
+              ne-eqb x X (λ e. absurd (omega arith)),
+              ne-eqb x R (λ e. absurd (omega arith)),
+              le-ltb (x + 1) R (omega arith),
+              and-false,
+            )
+            (sym (text-last (marks .│) X R (omega arith) own x t))
+        | no t ↦
+            elim (ℕ-discrete x R) [
+              | yes u ↦
+                  simp (le-leb X x (omega arith), le-leb x R (omega arith), ne-eqb x X (λ e. absurd (omega arith)), eq-eqb x R u)
+                  (rw u (sym (text-right (marks .│) X R (omega arith) own)))
+              | no u ↦ simp (le-leb X x (omega arith), lt-leb x R (omega arith)) (sym (text-out-right (marks .│) X R (omega arith) own x (omega arith)))
+            ]
+      ]
+
+  text-of : (x : ℕ) → textAt x ≡ textMark (marks .│) X R own x
+  unfolding textAt pick
+  text-of x =
+      elim (decLe x (X + 1)) [
+        | yes p ↦ text-before x p
+        | no p ↦
+            elim (decLe (suc (x + 1)) R) [
+              | no s ↦ text-after x (omega arith)
+              | yes s ↦
+                  simp (
+                    le-leb X x (omega arith),
+                    le-leb x R (omega arith),
+                    ne-eqb x X (λ e. absurd (omega arith)),
+                    ne-eqb x R (λ e. absurd (omega arith)),
+                    le-leb (X + 2) x (omega arith),
+                    lt-ltb (x + 1) R s,
+                  )
+                  (sym (text-own (marks .│) X R (omega arith) own x (omega arith) (omega arith)))
             ]
       ]
 

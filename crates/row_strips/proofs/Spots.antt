@@ -29,6 +29,7 @@ use Rattle.tree_view.specs.Measured.{linesAt, longestAt}
 use Rattle.tree_view.proofs.Boxes.{cell-at, cell-lines, node-left, node-right, node-top, node-bottom}
 use Rattle.tree_view.proofs.Nodes.{longest-at-le, lines-at-le}
 use Rattle.tree_view.proofs.Limits.{fits-width, fits-height, cx-le, cy-le, columns-le}
+use Rattle.marks.proofs.Chains.{at-some}
 use Rattle.row_strips.specs.Row.{Row, cellsIn, some, seenTo, goesIn, RowOf}
 use Rattle.row_strips.specs.Strip.{sizeOf, spotIn, Room, Apt}
 use Rattle.row_strips.specs.Known.{Known}
@@ -36,14 +37,6 @@ use Rattle.row_strips.proofs.Tests.{On, some-at, on-at, none-above, see
 use Rattle.row_strips.proofs.Ranges.{Column-part, Row-part, column-part, row-part, column-stop, row-stop, row-bends}
 
 -- ---- a cell of a row in a column
-at-mem : (j : ℕ) (ps : List Cell) (c : Cell) → List·Memᴰ c ps → c .column ≡ j → atColumn j ps ≡ true
-unfolding atColumn
-at-mem j [] c m e = absurd (List·Memᴰ·not-nil m)
-at-mem j (b ∷ ps) c m e =
-    ⊎-elim (λ (q : c ≡ b). rw (eq-eqb (b .column) j (ap (λ (d : Cell). d .column) (sym q) ∙ e)))
-    (λ (n : List·Memᴰ c ps). rw (at-mem j ps c n e) (or-true (eqb (b .column) j)))
-    (List·Memᴰ·cases-cons m)
-
 joint-equal : (q : Joint) (a b c : Bool) → q .parent ≡ a → q .child ≡ b → q .on ≡ c → _≡_ {A = Joint} (record { parent = a; child = b; on = c }) q
 joint-equal q a b c e f g = rw (← e, ← f, ← g)
 
@@ -184,7 +177,7 @@ module _ {len : List ℕ → ℕ} {marks : Marks} {p : List Node} {w h : ℕ} {T
         filled z =
             false≢true
             (sym (ap (λ (k : ℕ). not (eqb k 0)) z) ∙ here-test j hj
-            ∙ at-mem j ps c (unfold ps inRow in mem-keep (λ (d : Cell). eqb (d .row) i) (view p .cells) m (eq-eqb (c .row) i a)) b)
+            ∙ at-some j ps {c = c} (unfold ps inRow in mem-keep (λ (d : Cell). eqb (d .row) i) (view p .cells) m (eq-eqb (c .row) i a)) b)
 
     pub spotted : Spotted len (view p) i j (spotIn r L G cx j)
     spotted =

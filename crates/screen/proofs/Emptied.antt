@@ -16,6 +16,7 @@ use Rattle.rules.specs.Plan.{Node, nodeAt, depthAt}
 use Rattle.rules.specs.Levels.{Cell, leaf, columnAt, rowsOf, columnsOf, cellAt, view}
 use Rattle.rules.specs.Measures.{lineCount, longest, height, width}
 use Rattle.levels.proofs.Plans.{total-same}
+use Rattle.tree_view.proofs.Limits.{risen}
 use Rattle.tree_view.specs.Measured.{linesAt, longestAt}
 use Rattle.tree_view.specs.Sizes.{most}
 use Rattle.tree_view.proofs.Sizes.{most-ge, most-same}
@@ -64,11 +65,6 @@ unasked : (b : Bool) (m least : ℕ) → least ≤ m → pick b (max m (0 + leas
 unfolding pick
 unasked true m least h = omega arith
 unasked false m least h = refl
-
-risen : (b : Bool) (m s : ℕ) → m ≤ pick b (max m s) m
-unfolding pick
-risen true m s = omega arith
-risen false m s = omega arith
 
 module _ (key size : ℕ → ℕ) (least : ℕ) where
   most-cut : (k n i : ℕ) → k ≤ n → ((m : ℕ) → k ≤ m → size m ≡ 0) → most key size least n i ≡ most key size least k i

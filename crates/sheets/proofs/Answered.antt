@@ -21,6 +21,7 @@ use Rattle.rules.specs.Painting.{paintAnswer, painting}
 use Rattle.rules.specs.Sheets.{sheetsText, sheetsAnswer, sheetsDrawing, sheetsCanvasAfter, sheetsOutAfter}
 use Rattle.rules.specs.declared.Answer.{Answer}
 use Rattle.rules.specs.declared.Drawing.{Drawing}
+use Rattle.rules.proofs.Tests.{neither}
 use Rattle.rules.proofs.Painted.{painted-past, was-stopped}
 use Rattle.tree_format.specs.Drawn.{nothing, Written}
 
@@ -84,10 +85,6 @@ module _ (look : Look) (w h : ℕ) (s : Standin) (T B : List ℕ) where
         }
 
 -- sizes that are not 0
-neither : (a b : Bool) → (a || b) ≡ false → (a ≡ false) × (b ≡ false)
-neither true b e = absurd (false≢true (sym e))
-neither false b e = (refl, e)
-
 pub both-some : (w h : ℕ) → (eqb w 0 || eqb h 0) ≡ false → (1 ≤ w) × (1 ≤ h)
 both-some w h e =
     let q = neither (eqb w 0) (eqb h 0) e in

@@ -23,40 +23,21 @@ use Rattle.rules.specs.declared.Answer.{Answer}
 use Rattle.rules.specs.declared.Measure.{Measure}
 use Rattle.rules.specs.declared.Profile.{Profile}
 use Rattle.rules.proofs.Gates.{gate-plan, gate-passed}
-use Rattle.rules.proofs.Everywhere.{Holds, picture-holds}
 use Rattle.levels.specs.Shown.{planShown}
 use Rattle.levels.proofs.Shown.{shows}
 use Rattle.levels.proofs.Refused.{plan-all, all-showable}
 use Rattle.marks.specs.Lawful.{Seen, Lawful}
+use Rattle.marks.proofs.Text.{held}
 use Rattle.marks.proofs.Ends.{lawful-in}
 use Rattle.marks.proofs.Picture.{titles-held}
 use Rattle.sheets.specs.Glued.{rowOn, edgeToEdge}
 use Rattle.sheets.proofs.Answered.{both-some}
 use Rattle.sheets.proofs.Glued.{Fine, rows-narrow, sheets-glued}
 
-fine-seen : (k : ℕ) → Seen k → Fine k
-fine-seen k s = record { below = omega (arith, s .scalar .below); no-end = λ e. omega (arith, s .above) }
-
 -- every mark of a drawing whose titles are valid
 fine-at : (len : List ℕ → ℕ) (marks : Marks) → Lawful len marks → (p : List Node) → ((n : Node) → List·Memᴰ n p → valid (n .title) ≡ true)
     → (x y : ℕ) → Fine (picture len marks (view p) x y)
-fine-at len marks ok p v =
-    picture-holds Fine holds len (view p) (λ c m l i k j. let h = titles-held len marks p v c m l i k j in record { below = omega (arith, h .scalar .below); no-end = h .no-end })
-  where
-    holds : Holds Fine marks
-    holds = record {
-      space = record { below = omega arith; no-end = λ e. omega arith };
-      digit = λ n l. record { below = omega arith; no-end = λ e. omega arith };
-      ─-holds = fine-seen (marks .─) (ok .─-seen);
-      │-holds = fine-seen (marks .│) (ok .│-seen);
-      ┌-holds = fine-seen (marks .┌) (ok .┌-seen);
-      ╭-holds = fine-seen (marks .╭) (ok .╭-seen);
-      ╮-holds = fine-seen (marks .╮) (ok .╮-seen);
-      ╰-holds = fine-seen (marks .╰) (ok .╰-seen);
-      ╯-holds = fine-seen (marks .╯) (ok .╯-seen);
-      ┬-holds = fine-seen (marks .┬) (ok .┬-seen);
-      ┴-holds = fine-seen (marks .┴) (ok .┴-seen);
-    }
+fine-at len marks ok p v x y = let h = held len marks ok (view p) (titles-held len marks p v) x y in record { below = omega (arith, h .scalar .below); no-end = h .no-end }
 
 -- a node of a plan has its number
 numbered : (p : List Node) {n : Node} → List·Memᴰ n p → (k : ℕ) × (k < length p) × (nodeAt p k ≡ n)

@@ -27,7 +27,7 @@ use Rattle.marks.specs.Whole.{markAt}
 use Rattle.marks.specs.Numbers.{Lettered, endAt}
 use Rattle.marks.proofs.Facts as F
 use Rattle.marks.proofs.Boxes.{line-room}
-use Rattle.marks.proofs.Reading.{getD-mem}
+use Rattle.marks.proofs.Points.{getD-mem}
 use Rattle.marks.proofs.Picture.{Laid, laid, closed}
 use Rattle.marks.proofs.Spots.{Boxed, spot-field, mark-block}
 use Rattle.tree_view.specs.Box.{leftOf, rightOf, topOf, bottomOf}
@@ -56,7 +56,7 @@ module _ {len : List ℕ → ℕ} {marks : Marks} {p : List Node} {w h : ℕ} {T
   drawn = laid len marks p (q .drawable)
 
   abbrev letter : ℕ → ℕ → ℕ
-  letter = F.painted len marks (view p)
+  letter = D.picture len marks (view p)
 
   lettered : Lettered len (view p) letter
   lettered c m r k a b = F.inside len marks (view p) (q .lawful) (drawn .proper-view) c m r k a b

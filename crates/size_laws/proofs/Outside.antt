@@ -24,6 +24,7 @@ use Rattle.rules.proofs.Text.{end-space, end-mark}
 use Rattle.marks.specs.Lawful.{Lawful}
 use Rattle.marks.specs.Row.{digit}
 use Rattle.marks.specs.Whole.{markAt, marginOf, rowHolding, axisOf, indexAt}
+use Rattle.rules.specs.Drawing as D
 use Rattle.marks.proofs.Facts as F
 use Rattle.marks.proofs.Places.{Proper, column, left-low}
 use Rattle.marks.proofs.Plans.{Rising}
@@ -160,15 +161,15 @@ module _ (len : List ℕ → ℕ) (marks : Marks) (v : View) (ok : Lawful len ma
   unfolding M.canvasHeight
   tall = omega arith
 
-  head-at : (x : ℕ) → x < canvasWidth len v → F.painted len marks v x 0 ≡ at x 0
+  head-at : (x : ℕ) → x < canvasWidth len v → D.picture len marks v x 0 ≡ at x 0
   head-at x h = whole len marks v ok pv ri few x 0 h tall
 
   head-extra : (x : ℕ) → x < canvasWidth len v → extra (at x 0) ≡ 0
   unfolding digit
   head-extra x h =
       ap extra (sym (head-at x h))
-      ∙ ⊎-elim (λ (d : digit (F.painted len marks v x 0) ≡ true). low-extra (F.painted len marks v x 0) (omega (arith, ltb-true (F.painted len marks v x 0) 0x3A (both (leb 0x30 (F.painted len marks v x 0)) (ltb (F.painted len marks v x 0) 0x3A) d .1))))
-      (λ (d : F.painted len marks v x 0 ≡ 0x20). ap extra d ∙ extra-space) (head-digits len marks v ok pv x)
+      ∙ ⊎-elim (λ (d : digit (D.picture len marks v x 0) ≡ true). low-extra (D.picture len marks v x 0) (omega (arith, ltb-true (D.picture len marks v x 0) 0x3A (both (leb 0x30 (D.picture len marks v x 0)) (ltb (D.picture len marks v x 0) 0x3A) d .1))))
+      (λ (d : D.picture len marks v x 0 ≡ 0x20). ap extra d ∙ extra-space) (head-digits len marks v ok pv x)
 
   pub row-0 : length (rowText at (canvasWidth len v) 0) ≡ headEnd len v + 1
   unfolding headEnd

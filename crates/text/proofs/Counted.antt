@@ -1,7 +1,7 @@
 -- What is counted of a valid line is its length by the measure; and no count is greater than the bytes.
 use mathlib.Core.Path.{_≡_, refl, sym}
 use mathlib.Core.Bool.{true}
-use mathlib.Core.List.{List, [], _∷_, List·Memᴰ, List·Memᴰ·head, List·Memᴰ·tail}
+use mathlib.Core.List.{List, [], _∷_, _++_, List·Memᴰ, List·Memᴰ·head, List·Memᴰ·tail}
 use Prim.Native.Nat.{ℕ, _≤_, max}
 use native.Mathlib.Omega.{arith}
 use lib.ListN.{length}
@@ -24,6 +24,12 @@ pub greatest-same : {A : Type 0} (f g : A → ℕ) (l : List A) → ((a : A) →
 unfolding greatest
 greatest-same f g [] h = refl
 greatest-same f g (a ∷ l) h = rw (h a (List·Memᴰ·head refl), greatest-same f g l (λ b m. h b (List·Memᴰ·tail m)))
+
+-- of two lists
+pub greatest-append : {A : Type 0} (f : A → ℕ) (l m : List A) → greatest f (l ++ m) ≡ max (greatest f l) (greatest f m)
+unfolding greatest
+greatest-append f [] m = omega arith
+greatest-append f (a ∷ l) m = omega (arith, greatest-append f l m)
 
 -- so it is with the longest line of a valid title
 pub counted-longest : (m : Measure) (t : List ℕ) → valid t ≡ true → greatest (counted m) (linesOf t) ≡ greatest (lenOf m) (linesOf t)

@@ -6,11 +6,13 @@ use mathlib.Core.Bool.{false}
 use native.Mathlib.Omega.{arith}
 use lib.ListN.{length, length-append}
 use lib.Seq.{sets, length-sets}
+use Rattle.rules.proofs.Lists.{laid-sets}
+use Rattle.rules.proofs.Text.{each-next, each-room}
 use Rattle.rules.specs.Base.{each}
 use Rattle.rules.specs.Plan.{Node, nodeAt}
 use Rattle.rules.specs.Reader.{titlesOf}
-use Rattle.delivery.proofs.Titles.{parts-none, parts-more, parts-fit, titles-all}
-use Rattle.delivery.proofs.Stored.{stored-all, stored-part}
+use Rattle.delivery.proofs.Titles.{titles-all}
+use Rattle.delivery.proofs.Stored.{stored-part}
 use Rattle.graph_plan.specs.Label.{readBack}
 use Rattle.graph_scan.specs.Held.{planBy}
 use Rattle.graph_scan.proofs.Plans.{plan-length, title-by}
@@ -33,7 +35,7 @@ loop-holds : tie.Need-loop-holds Inv-loop μ-loop
 loop-holds c =
     let a = c .before .before .args in
     let p = planBy (a .text .now) (a .seen .now) (a .order .now) (a .nodes) in
-    (search needs, refl, rw (parts-none (titleOf p)) refl, rw (parts-none (titleOf p)) refl)
+    (search needs, refl, unfold each in refl, unfold each in refl)
 
 label-requires : tie.Need-label-requires Inv-loop μ-loop
 label-requires c κs = (c .before .before .before .before .pre .0, search needs)
@@ -46,7 +48,7 @@ unescape-requires c κs =
     let p = planBy (a .text .now) (a .seen .now) (a .order .now) (a .nodes) in
     let t : l .t < a .nodes = search needs in
     let is = ap (readBack false) (c .before .label .ensures) ∙ sym (title-by (s .pre .0) (l .t) t) in
-    omega (arith, ap length is, parts-fit (titleOf p) (l .t) (length p) (omega (arith, plan-length (s .pre .0))), ap length (titles-all p), l .inv .1, l .inv .2, s .pre .1)
+    omega (arith, ap length is, each-room (titleOf p) (l .t) (length p) (omega (arith, plan-length (s .pre .0))), ap length (titles-all p), l .inv .1, l .inv .2, s .pre .1)
 
 add-t : tie.Need-add-t Inv-loop μ-loop
 add-t c = search needs
@@ -67,7 +69,7 @@ loop-again c =
     let put : r .last .1 .0 ≡ sets (l .out) (l .at) (nodeAt p (l .t) .title) = rw (← is) (r .ensures .1) in (
       omega arith,
       ap length put ∙ length-sets (l .out) (l .at) (nodeAt p (l .t) .title) ∙ l .inv .1,
-      omega (arith, r .ensures .0, ap length is, ap length (parts-more (titleOf p) (l .t)), length-append (each (titleOf p) (l .t)) (nodeAt p (l .t) .title), l .inv .2),
+      omega (arith, r .ensures .0, ap length is, ap length (each-next (titleOf p) (l .t)), length-append (each (titleOf p) (l .t)) (nodeAt p (l .t) .title), l .inv .2),
       stored-part (titleOf p) (a .out .now) (l .out) (r .last .1 .0) (l .at) (l .t) (l .inv .2) (l .inv .3) put,
     )
 
@@ -82,7 +84,7 @@ returns c =
     let p = planBy (a .text .now) (a .seen .now) (a .order .now) (a .nodes) in
     let n : l .t ≡ length p = omega (arith, plan-length (s .pre .0)) in
     let e : each (titleOf p) (l .t) ≡ titlesOf p = ap (each (titleOf p)) n ∙ sym (titles-all p) in
-    l .inv .3 ∙ rw e (stored-all (a .out .now) (titlesOf p) (s .pre .1))
+    l .inv .3 ∙ rw e (laid-sets (titlesOf p) (a .out .now) (s .pre .1))
 
 pub give-titles-spec : {M : Type 1} → statement M
 give-titles-spec =

@@ -5,12 +5,13 @@ use mathlib.Core.Path.{_≡_, refl, ap, _∙_}
 use native.Mathlib.Omega.{arith}
 use lib.ListN.{length, length-append}
 use lib.Seq.{sets, length-sets}
+use Rattle.rules.proofs.Lists.{laid-sets}
+use Rattle.rules.proofs.Text.{each-next, each-room}
 use Rattle.rules.specs.Base.{each}
 use Rattle.picture_sight.specs.Seen.{seen}
 use Rattle.picture.specs.Standing.{titleBy}
-use Rattle.delivery.proofs.Titles.{parts-none, parts-more, parts-fit}
 use Rattle.picture.proofs.Giving.{entry-in, stands-at, block-at}
-use Rattle.delivery.proofs.Stored.{stored-all, stored-part}
+use Rattle.delivery.proofs.Stored.{stored-part}
 use borrow.Author.Needs.{needs}
 use Rattle.picture.proofs.give.give_titles.Statement.{statement}
 use Rattle.picture.proofs.give.give_titles.Tie as tie
@@ -26,7 +27,7 @@ loop-holds c =
     let s = c .before .before .before in
     let a = s .args in
     let f : ℕ → List ℕ = titleBy (seen (a .cells .now) (a .width) (a .height)) (a .found .now) (a .cy .now) (a .middle .now) (a .lines .now) (a .longest .now) in
-    (search needs, refl, rw (parts-none f) refl, rw (parts-none f) refl)
+    (search needs, refl, unfold each in refl, unfold each in refl)
 
 mul-wide : tie.Need-mul-wide Inv-loop μ-loop
 mul-wide c = search needs
@@ -109,7 +110,7 @@ write-block-requires c κs =
     let st = stands-at (a .nodes) (a .found .now) (a .cy .now) (a .middle .now) (a .lines .now) (a .longest .now) (s .pre .1 .1 .0) (l .k) (search needs) (i .result) (i .ensures) in
     let u = c .before .before .half-up in
     let is = block-at (a .nodes) (a .found .now) (a .cy .now) (a .middle .now) (a .lines .now) (a .longest .now) (s .pre .1 .1 .0) (l .k) (search needs) (i .result) (i .ensures) (seen (a .cells .now) (a .width) (a .height)) (u .result) (u .ensures) in
-    ((s .pre .0, omega (arith, st .wide), omega (arith, st .low), st .some, omega (arith, ap length is, parts-fit (titleBy (seen (a .cells .now) (a .width) (a .height)) (a .found .now) (a .cy .now) (a .middle .now) (a .lines .now) (a .longest .now)) (l .k) (a .nodes) (search needs), s .pre .1 .1 .1, l .inv .1, l .inv .2)), s .pre .1 .0)
+    ((s .pre .0, omega (arith, st .wide), omega (arith, st .low), st .some, omega (arith, ap length is, each-room (titleBy (seen (a .cells .now) (a .width) (a .height)) (a .found .now) (a .cy .now) (a .middle .now) (a .lines .now) (a .longest .now)) (l .k) (a .nodes) (search needs), s .pre .1 .1 .1, l .inv .1, l .inv .2)), s .pre .1 .0)
 
 add-k : tie.Need-add-k Inv-loop μ-loop
 add-k c = search needs
@@ -132,7 +133,7 @@ loop-again c =
     let put : r .last .1 .1 .1 .1 .1 .1 .1 .0 ≡ sets (l .out) (l .at) (f (l .k)) = rw is (r .ensures .1) in (
       omega (arith, at-half-up .before .before .before .before .before .before .loop-test),
       ap length put ∙ length-sets (l .out) (l .at) (f (l .k)) ∙ l .inv .1,
-      omega (arith, r .ensures .0, ap length is, ap length (parts-more f (l .k)), length-append (each f (l .k)) (f (l .k)), l .inv .2),
+      omega (arith, r .ensures .0, ap length is, ap length (each-next f (l .k)), length-append (each f (l .k)) (f (l .k)), l .inv .2),
       stored-part f (a .out .now) (l .out) (r .last .1 .1 .1 .1 .1 .1 .1 .0) (l .at) (l .k) (l .inv .2) (l .inv .3) put,
     )
 
@@ -145,7 +146,7 @@ returns c =
     let a = s .args in
     let l = c .before .loop in
     let e : l .k ≡ a .nodes = omega arith in
-    l .inv .3 ∙ rw e (stored-all (a .out .now) (each (titleBy (seen (a .cells .now) (a .width) (a .height)) (a .found .now) (a .cy .now) (a .middle .now) (a .lines .now) (a .longest .now)) (a .nodes)) (s .pre .1 .1 .1))
+    l .inv .3 ∙ rw e (laid-sets (each (titleBy (seen (a .cells .now) (a .width) (a .height)) (a .found .now) (a .cy .now) (a .middle .now) (a .lines .now) (a .longest .now)) (a .nodes)) (a .out .now) (s .pre .1 .1 .1))
 
 pub give-titles-spec : {M : Type 1} → statement M
 give-titles-spec =

@@ -5,7 +5,7 @@ use mathlib.Core.Path.{_≡_, sym, _∙_}
 use native.Mathlib.Omega.{arith}
 use Rattle.rules.proofs.Candidate.{next, marked}
 use Rattle.picture_sight.specs.Seen.{seen}
-use Rattle.picture_sight.proofs.Next.{next-end, next-here, next-past}
+use Rattle.levels.proofs.Next.{next-end, next-here, next-past}
 use Rattle.picture_sight.proofs.Seen.{mark, no-mark}
 use borrow.Author.Needs.{needs}
 use Rattle.picture_sight.proofs.look.mark_beside.Statement.{statement}

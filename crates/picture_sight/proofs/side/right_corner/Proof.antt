@@ -7,7 +7,7 @@ use lib.Dec.{eqb}
 use borrow.Author.Tests.{eq-eqb, ne-eqb}
 use Rattle.rules.proofs.Candidate.{next}
 use Rattle.picture_sight.specs.Seen.{seen}
-use Rattle.picture_sight.proofs.Next.{next-end, next-here, next-past}
+use Rattle.levels.proofs.Next.{next-end, next-here, next-past}
 use borrow.Author.Needs.{needs}
 use Rattle.picture_sight.proofs.side.right_corner.Statement.{statement}
 use Rattle.picture_sight.proofs.side.right_corner.Tie as tie
