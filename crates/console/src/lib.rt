@@ -10,13 +10,13 @@ pub struct Input {
     pub failed: bool,
 }
 
-// Reads standard input until `buf` is full, the input ends or a read fails. Input that comes in pieces is read piece by piece.
-pub fn read_all(buf: &mut [u8]) -> Input
+// Reads what a descriptor gives until `buf` is full, the input ends or a read fails. Input that comes in pieces is read piece by piece.
+pub fn read_from(fd: i32, buf: &mut [u8]) -> Input
     ensures { λ r. ⌜ Counts (r .size) (now (buf .exit)) ⌝ }
 {
     let mut done = 0;
     while done < buf.len() {
-        let got = libc::read(STDIN_FILENO, &mut buf[done..]);
+        let got = libc::read(fd, &mut buf[done..]);
         if got < 0 {
             return Input {
                 size: done,
@@ -38,6 +38,13 @@ pub fn read_all(buf: &mut [u8]) -> Input
     }
 }
 
+// Reads standard input so.
+pub fn read_all(buf: &mut [u8]) -> Input
+    ensures { λ r. ⌜ Counts (r .size) (now (buf .exit)) ⌝ }
+{
+    read_from(STDIN_FILENO, buf)
+}
+
 // Writes to standard output.
 pub fn print(text: &[u8]) {
     io::write_all(STDOUT_FILENO, text);
@@ -52,4 +59,9 @@ pub fn print_number(n: u64, after: u8) {
 // Writes to standard error.
 pub fn complain(text: &[u8]) {
     io::write_all(STDERR_FILENO, text);
+}
+
+// Writes a number to standard error.
+pub fn complain_number(n: u64) {
+    io::print_decimal(STDERR_FILENO, n);
 }

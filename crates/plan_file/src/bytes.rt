@@ -35,7 +35,7 @@ pub fn word(file: &[u8], at: usize) -> u32
 }
 
 // The file has a trailer's length, and its last four bytes are 54 52 45 45.
-fn ends_in_tree(file: &[u8]) -> bool
+pub fn ends_in_tree(file: &[u8]) -> bool
     ensures { λ r. ⌜ r ≡ endsInTree (now (file .entry)) ⌝ }
 {
     let size = file.len();
@@ -57,7 +57,7 @@ fn ends_in_tree(file: &[u8]) -> bool
 }
 
 // The file form is not broken.
-pub(crate) fn formed(file: &[u8]) -> bool
+pub fn formed(file: &[u8]) -> bool
     ensures { λ r. ⌜ r ≡ File·formed (now (file .entry)) ⌝ }
 {
     if !ends_in_tree(file) {
@@ -100,7 +100,7 @@ pub fn words(file: &[u8], from: usize, table: &mut [u32])
 }
 
 // The number of nodes to read: 257 stand for all greater numbers.
-pub(crate) fn few(count: usize) -> usize
+pub fn few(count: usize) -> usize
     ensures { λ r. ⌜ r ≡ min count 257 ⌝ }
 {
     if 257 < count {

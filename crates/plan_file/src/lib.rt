@@ -3,6 +3,9 @@ mod bytes;
 mod draw;
 mod print;
 
+pub use bytes::ends_in_tree;
+pub use bytes::few;
+pub use bytes::formed;
 pub use bytes::word;
 pub use bytes::words;
 pub use draw::draw_file;

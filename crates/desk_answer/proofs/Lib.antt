@@ -1,0 +1,4 @@
+pub mod Parts
+pub mod Loaded
+pub mod Said
+pub mod Asked

@@ -1,0 +1,4 @@
+pub mod Found
+pub mod Nodes
+pub mod Told
+pub mod Within

@@ -1,0 +1,5 @@
+// Whether a sheet is the drawing of a plan, and if not, where it first differs.
+mod compare;
+mod sheet;
+
+pub use sheet::check_page;

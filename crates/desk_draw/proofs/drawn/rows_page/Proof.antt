@@ -1,0 +1,49 @@
+-- What is answered and written, finished.
+use mathlib.Core.Path.{ap}
+use lib.ListN.{length}
+use Rattle.rules.specs.Look.{lookOf}
+use Rattle.rules.specs.Standin.{standinOf}
+use Rattle.rules.specs.Answers.{told, drawing, rowDrawing}
+use Rattle.rules.specs.Sheets.{sheetsDrawing}
+use Rattle.desk_draw.specs.Drawn.{rowsPage}
+use Rattle.desk_draw.proofs.Laid.{rows-written}
+use borrow.Author.Needs.{needs}
+use Rattle.desk_draw.proofs.drawn.rows_page.Statement.{statement}
+use Rattle.desk_draw.proofs.drawn.rows_page.Tie as tie
+use Rattle.desk_draw.proofs.drawn.rows_page.Reads as reads
+use Rattle.desk_draw.proofs.drawn.rows_page.Lts as lts
+use Rattle.desk_page.proofs.finish.Reads as finish-reads
+use Rattle.rows.proofs.draw_rows.Reads as draw-rows-reads
+
+-- src/drawn.rt:47:9
+draw-rows-requires : tie.Need-draw-rows-requires
+draw-rows-requires c κs = search needs
+
+-- src/drawn.rt:49:5
+finish-requires : tie.Need-finish-requires
+finish-requires c κs = search needs
+
+-- src/drawn.rt:34:1
+same-length : tie.Need-same-length
+same-length c = search needs
+
+-- src/drawn.rt:34:1
+same-length-2 : tie.Need-same-length-2
+same-length-2 c = search needs
+
+-- src/drawn.rt:34:1
+returns : tie.Need-returns
+unfolding rowsPage told drawing rowDrawing sheetsDrawing
+returns c =
+    let at-finish = c .before .before in
+    let at-draw = at-finish .before .before .before .before .before .before in
+    let a = at-draw .before .before .before .before .before .before .before .before .args in
+    let w = at-draw .draw-rows .ensures in
+    let e = ap (λ d. d .answer) (w .0) in
+    rw (← e)
+    (at-finish .finish .ensures _
+    (rw (e, w .1 .1) (rows-written (lookOf (a .measure) (a .profile)) (standinOf (a .given) (a .standin .now)) (a .table .now) (a .titles .now) (length (a .row .now)) (a .out .now))))
+
+pub rows-page-spec : {M : Type 1} → statement M
+rows-page-spec =
+    tie.close (tie.spec draw-rows-requires finish-requires same-length same-length-2 returns)

@@ -1,0 +1,49 @@
+-- What is answered and written, finished.
+use mathlib.Core.Path.{ap}
+use lib.ListN.{length}
+use Rattle.rules.specs.Look.{lookOf}
+use Rattle.rules.specs.Standin.{standinOf}
+use Rattle.rules.specs.Answers.{told, drawing, rowDrawing}
+use Rattle.rules.specs.Sheets.{sheetsDrawing}
+use Rattle.desk_draw.specs.Drawn.{sheetsPage}
+use Rattle.desk_draw.proofs.Laid.{sheets-written}
+use borrow.Author.Needs.{needs}
+use Rattle.desk_draw.proofs.drawn.sheets_page.Statement.{statement}
+use Rattle.desk_draw.proofs.drawn.sheets_page.Tie as tie
+use Rattle.desk_draw.proofs.drawn.sheets_page.Reads as reads
+use Rattle.desk_draw.proofs.drawn.sheets_page.Lts as lts
+use Rattle.desk_page.proofs.finish.Reads as finish-reads
+use Rattle.sheets.proofs.sheets.Reads as sheets-reads
+
+-- src/drawn.rt:68:9
+sheets-requires : tie.Need-sheets-requires
+sheets-requires c κs = search needs
+
+-- src/drawn.rt:81:5
+finish-requires : tie.Need-finish-requires
+finish-requires c κs = search needs
+
+-- src/drawn.rt:53:1
+same-length : tie.Need-same-length
+same-length c = search needs
+
+-- src/drawn.rt:53:1
+same-length-2 : tie.Need-same-length-2
+same-length-2 c = search needs
+
+-- src/drawn.rt:53:1
+returns : tie.Need-returns
+unfolding sheetsPage told drawing rowDrawing sheetsDrawing
+returns c =
+    let at-finish = c .before .before in
+    let at-draw = at-finish .before .before .before .before .before .before in
+    let a = at-draw .before .before .before .before .before .before .before .before .args in
+    let w = at-draw .sheets .ensures in
+    let e = ap (λ d. d .answer) (w .0) in
+    rw (← e)
+    (at-finish .finish .ensures _
+    (rw (e, w .1 .1) (sheets-written (lookOf (a .measure) (a .profile)) (standinOf (a .given) (a .standin .now)) (a .table .now) (a .titles .now) (length (a .cells .now)) (a .out .now) (a .width) (a .height))))
+
+pub sheets-page-spec : {M : Type 1} → statement M
+sheets-page-spec =
+    tie.close (tie.spec sheets-requires finish-requires same-length same-length-2 returns)

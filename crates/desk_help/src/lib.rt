@@ -1,0 +1,4 @@
+// What `help` tells.
+mod guide;
+
+pub use guide::help_words;
