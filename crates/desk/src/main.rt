@@ -233,7 +233,7 @@ fn serve(args: &[u8])
     let mut titles = [0u8; 262144];
     let mut other = [0u32; 768];
     let mut words = [0u8; 262144];
-    let mut out = [0u8; 2097152];
+    let mut out = [0u8; 1572864];
     run(
         args,
         &mut input,

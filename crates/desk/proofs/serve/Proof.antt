@@ -34,7 +34,7 @@ slice-aggregate-run-6 c = search needs
 
 -- src/main.rt:239:9
 slice-aggregate-run-7 : tie.Need-slice-aggregate-run-7
-slice-aggregate-run-7 c = long 2097152
+slice-aggregate-run-7 c = long 1572864
 
 -- src/main.rt:231:5
 run-requires : tie.Need-run-requires
