@@ -3,19 +3,19 @@
 use mathlib.Core.Path.{_≡_, refl, ap, sym, _∙_}
 use mathlib.Core.List.{List}
 use mathlib.Core.Bool.{true}
-use Prim.Native.Nat.{ℕ, suc, zero, _+_, _*_, _-_, _/_, _≤_, _<_, min}
+use Prim.Native.Nat.{ℕ, _+_, _*_, _-_, _/_, _≤_, _<_, min}
 use native.Mathlib.Omega.{arith}
-use native.Mathlib.Numerals.{add-one}
 use lib.ListN.{length, getD}
 use Rattle.rules.specs.Measures as M
 use Rattle.rules.specs.Base.{total}
 use Rattle.rules.specs.Utf8.{valid}
 use Rattle.rules.specs.Plan.{Node, nodeAt}
 use Rattle.rules.specs.Levels.{view}
-use Rattle.rules.specs.Measures.{canvasWidth, canvasHeight, rowOffset, height, columnOffset}
+use Rattle.rules.specs.Measures.{canvasWidth, canvasHeight, rowOffset, columnOffset}
 use Rattle.rules.specs.Drawing as D
-use Rattle.rules.specs.Drawing.{Marks, endOf, rowText, textOf, picture, text}
+use Rattle.rules.specs.Drawing.{Marks, endOf, rowText, picture, text}
 use Rattle.rules.proofs.Text.{row-same}
+use Rattle.rules.proofs.Lists.{total-same}
 use Rattle.marks.specs.Spot.{Spot}
 use Rattle.marks.specs.Whole.{markAt}
 use Rattle.marks.specs.Numbers.{endAt}
@@ -27,10 +27,10 @@ use Rattle.row_strips.specs.Known.{Known}
 use Rattle.row_strips.proofs.Ranges.{column-part, row-part, row-stop, row-last, column-last, row-bends}
 use Rattle.size_laws.specs.Sums.{sum, extra}
 use Rattle.size_laws.specs.Even.{Even}
-use Rattle.size_laws.specs.Columns.{Ends, orElse, rowEnd, fieldMore, endsFrom, bandSize}
+use Rattle.size_laws.specs.Columns.{orElse, fieldMore, endsFrom, bandSize}
 use Rattle.size_laws.specs.Size.{headEnd, ownIn, tallyIn, rowsBytes}
-use Rattle.size_laws.proofs.Sums.{total-same, sum-same, sum-join, sum-add, sum-const, sum-total, sum-from, sum-one, sum-parts}
-use Rattle.size_laws.proofs.Bands.{Fit, mores, band-ends}
+use Rattle.size_laws.proofs.Sums.{sum-same, sum-join, sum-add, sum-const, sum-total, sum-from, sum-one, sum-parts}
+use Rattle.size_laws.proofs.Bands.{mores, band-ends}
 use Rattle.size_laws.proofs.Rows.{row-length, end-columns, text-length}
 use Rattle.size_laws.proofs.Drawn.{starts, stops, fit, column-more, column-ends}
 use Rattle.size_laws.proofs.Outside.{margin-extra, margin-end, row-0, row-1, row-2}
