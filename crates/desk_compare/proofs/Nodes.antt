@@ -15,7 +15,7 @@ use Rattle.rules.proofs.Lists.{length-plan, depth-plan, first-none, first-hit}
 use Rattle.rules.proofs.Replaced.{replaced-length, replaced-at}
 use Rattle.levels.specs.Shown.{planShown}
 use Rattle.levels.proofs.Plans.{node-plan}
-use Rattle.desk_check.specs.Checked.{sameNode, firstOther}
+use Rattle.desk_compare.specs.Compared.{sameNode, firstOther}
 
 module _ (given : Bool) (S T B U C : List ℕ) where
   -- the nodes that both have

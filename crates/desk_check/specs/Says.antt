@@ -1,21 +1,15 @@
--- Titles that lie within the title bytes, of a table of whole nodes; and what is said of a sheet that is not the plan's. Words for contracts, no rules.
-use mathlib.Core.Path.{_≡_}
+-- What is said of a sheet that is not the plan's. Words for contracts, no rules.
 use mathlib.Core.List.{List}
 use mathlib.Core.Bool.{false}
-use Prim.Native.Nat.{ℕ, _+_, _*_, _≤_, _<_}
-use lib.ListN.{length}
-use Rattle.rules.specs.Plan.{Node, count, startIn, sizeIn}
+use Prim.Native.Nat.{ℕ}
+use Rattle.rules.specs.Plan.{Node}
 use Rattle.rules.specs.Look.{Look}
 use Rattle.rules.specs.Reader.{Draws}
 use Rattle.desk_tell.specs.Words.{differWords, undrawnWords}
 use Rattle.desk_page.specs.Lays.{LaidAs}
 use Rattle.desk_page.specs.declared.Shown.{Shown}
 use Rattle.desk_read.specs.Pictured.{Unread}
-use Rattle.desk_check.specs.Checked.{firstOther}
-
-pub record Placed (T B : List ℕ) : Type 0 where
-  pub whole : length T ≡ 3 * count T
-  pub within : (k : ℕ) → k < count T → startIn T k + sizeIn T k ≤ length B
+use Rattle.desk_compare.specs.Compared.{firstOther}
 
 -- the output O begins with the first node of p that differs from the plan that P is the drawing of, or with why P is no plan's
 pub data Says (look : Look) (p : List Node) (P : List ℕ) (cells entries bytes : ℕ) (O : List ℕ) (r : Shown) : Type 0 where

@@ -6,11 +6,11 @@ use native.Mathlib.Omega.{arith}
 use borrow.Author.Tests.{not-true, not-false}
 use Rattle.rules.specs.Plan.{count, planOf}
 use Rattle.levels.specs.Shown.{planShown}
-use Rattle.desk_check.specs.Checked.{sameNode}
-use Rattle.desk_check.proofs.Nodes.{both-have, found-other, none-other, one-more}
+use Rattle.desk_compare.specs.Compared.{sameNode}
+use Rattle.desk_compare.proofs.Nodes.{both-have, found-other, none-other, one-more}
 use borrow.Author.Needs.{needs}
-use Rattle.desk_check.proofs.compare.first_other.Statement.{statement}
-use Rattle.desk_check.proofs.compare.first_other.Tie as tie
+use Rattle.desk_compare.proofs.first_other.Statement.{statement}
+use Rattle.desk_compare.proofs.first_other.Tie as tie
 
 abbrev Inv-loop : tie.InvT-loop
 Inv-loop table titles given standin other words both k₀ k =
@@ -19,8 +19,8 @@ Inv-loop table titles given standin other words both k₀ k =
 abbrev μ-loop : tie.MeasureT-loop
 μ-loop table titles given standin other words both k₀ k = both - k
 
-least-requires : tie.Need-least-requires Inv-loop μ-loop
-least-requires c κs = search needs
+shorter-requires : tie.Need-shorter-requires Inv-loop μ-loop
+shorter-requires c κs = search needs
 
 loop-holds : tie.Need-loop-holds Inv-loop μ-loop
 unfolding count
@@ -53,7 +53,7 @@ returns-2 : tie.Need-returns-2 Inv-loop μ-loop
 returns-2 c =
     let at-loop = c .before in
     let a = at-loop .before .before .before .before .before .before .before .args in
-    let e : at-loop .loop .k ≡ at-loop .before .least .result = omega arith in
+    let e : at-loop .loop .k ≡ at-loop .before .shorter .result = omega arith in
     sym e
     ∙ none-other _ _ (at-loop .loop .k) _ (both-have (a .given) (a .standin .now) (a .table .now) (a .titles .now) (a .other .now) (a .words .now)) (at-loop .loop .inv .2) (e ∙ at-loop .loop .inv .0)
 
@@ -63,7 +63,7 @@ first-other-spec =
     (tie.spec
     Inv-loop
     μ-loop
-    least-requires
+    shorter-requires
     loop-holds
     node-same-requires
     returns

@@ -1,20 +1,10 @@
 // The first node of a plan, as it is shown, that is not the same in another plan.
 ghost use mathlib.Core.Path.{_≡_};
-ghost use Prim.Native.Nat.{_<_, min};
+ghost use Prim.Native.Nat.{_<_};
 ghost use Rattle.rules.specs.Plan.{count, planOf};
 ghost use Rattle.levels.specs.Shown.{planShown};
-ghost use Rattle.desk_check.specs.Checked.{sameNode, firstOther as firstOtherOf};
-ghost use Rattle.desk_check.specs.Placed.{Placed};
-
-// The lesser.
-fn least(a: usize, b: usize) -> usize
-    ensures { λ r. ⌜ r ≡ min a b ⌝ }
-{
-    if a < b {
-        return a;
-    }
-    b
-}
+ghost use Rattle.desk_compare.specs.Compared.{sameNode, firstOther as firstOtherOf};
+ghost use Rattle.desk_compare.specs.Placed.{Placed};
 
 // Node k is the same.
 fn node_same<'a>(
@@ -37,7 +27,7 @@ fn node_same<'a>(
 }
 
 // The first that is not, or the first that only one has.
-pub(crate) fn first_other<'a>(
+pub fn first_other<'a>(
     table: &[u32],
     titles: &'a [u8],
     given: bool,
@@ -48,7 +38,7 @@ pub(crate) fn first_other<'a>(
     requires { ⌜ Placed (now table) (now titles) × Placed (now other) (now words) ⌝ }
     ensures { λ r. ⌜ r ≡ firstOtherOf (planShown given (now (standin .entry)) (now (table .entry)) (now (titles .entry))) (planOf (now (other .entry)) (now (words .entry))) ⌝ }
 {
-    let both = least(table.len() / 3, other.len() / 3);
+    let both = text::shorter(table.len() / 3, other.len() / 3);
     let mut k = 0;
     while k < both {
         if !node_same(table, titles, given, standin, other, words, k) {

@@ -2,10 +2,10 @@
 use mathlib.Core.Path.{_∙_}
 use native.Mathlib.Omega.{arith}
 use Rattle.rules.specs.Plan.{depthIn}
-use Rattle.desk_check.proofs.Nodes.{other-depth, same-depth}
+use Rattle.desk_compare.proofs.Nodes.{other-depth, same-depth}
 use borrow.Author.Needs.{needs}
-use Rattle.desk_check.proofs.compare.node_same.Statement.{statement}
-use Rattle.desk_check.proofs.compare.node_same.Tie as tie
+use Rattle.desk_compare.proofs.node_same.Statement.{statement}
+use Rattle.desk_compare.proofs.node_same.Tie as tie
 
 mul-if1 : tie.Need-mul-if1
 mul-if1 c = search needs
