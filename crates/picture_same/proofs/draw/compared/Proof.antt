@@ -16,7 +16,7 @@ returns : tie.Need-returns
 returns c =
     let s = c .before .before .before .before .before in
     let a = s .args in
-    bands-tell (lenOf (a .measure)) (marksIn (a .g)) (planSeen (marksIn (a .g)) (a .cells .now) (a .width) (a .height)) (s .pre .1 .known .drawable) (seen (a .cells .now) (a .width) (a .height)) (a .width) (a .height)
+    bands-tell (lenOf (a .sight .measure)) (marksIn (a .sight .marks)) (planSeen (marksIn (a .sight .marks)) (a .cells .now) (a .sight .width) (a .sight .height)) (s .pre .1 .known .drawable) (seen (a .cells .now) (a .sight .width) (a .sight .height)) (a .sight .width) (a .sight .height)
     (c .before .before .edges-same .result) (c .bands-same .result) (s .pre .1 .known .numbers .wide) (s .pre .1 .known .numbers .high)
     (c .before .before .edges-same .ensures) (c .before .if1 .taken) (c .bands-same .ensures)
 
@@ -24,7 +24,7 @@ returns-2 : tie.Need-returns-2
 returns-2 c =
     let s = c .before .before .before .before in
     let a = s .args in
-    edges-tell (lenOf (a .measure)) (marksIn (a .g)) (planSeen (marksIn (a .g)) (a .cells .now) (a .width) (a .height)) (s .pre .1 .known .drawable) (seen (a .cells .now) (a .width) (a .height)) (a .width) (a .height)
+    edges-tell (lenOf (a .sight .measure)) (marksIn (a .sight .marks)) (planSeen (marksIn (a .sight .marks)) (a .cells .now) (a .sight .width) (a .sight .height)) (s .pre .1 .known .drawable) (seen (a .cells .now) (a .sight .width) (a .sight .height)) (a .sight .width) (a .sight .height)
     (c .before .edges-same .result) (c .before .edges-same .ensures) (c .if1 .left)
 
 pub compared-spec : {M : Type 1} → statement M
