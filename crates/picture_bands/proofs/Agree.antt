@@ -37,8 +37,8 @@ pub seen-at : (cells : List ℕ) (w h x y : ℕ) → x < w → y < h → seen ce
 unfolding seen pick
 seen-at cells w h x y a b = rw (lt-ltb x w a, lt-ltb y h b)
 
-module _ {len : List ℕ → ℕ} {marks : Marks} {p : List Node} (cells : List ℕ) {w h : ℕ} {T : List ℕ} {nodes : ℕ} {C L G cx xs : List ℕ} {ncols : ℕ} {cy ys : List ℕ} {nrows : ℕ}
-    (q : Ready len marks p (seen cells w h) w h T nodes C L G cx xs ncols cy ys nrows) where
+module _ {len : List ℕ → ℕ} {marks : Marks} {p : List Node} (cells : List ℕ) {w h : ℕ} {T : List ℕ} {nodes : ℕ} {C L G cx xs : List ℕ} {ncols : ℕ} {ys : List ℕ} {nrows : ℕ}
+    (q : Ready len marks p (seen cells w h) w h T nodes C L G cx xs ncols ys nrows) where
   drawn : Laid (view p)
   drawn = laid len marks p (q .known .drawable)
 
@@ -46,7 +46,7 @@ module _ {len : List ℕ → ℕ} {marks : Marks} {p : List Node} (cells : List 
   abbrev pub agreed : (a b c e : ℕ) → Bool
   agreed a b c e = alikeIn (seen cells w h) (markAt len marks (view p)) a b c e
 
-  module _ (i : ℕ) (hi : i < view p .rows) (r : Row) (o : RowOf T nodes C L ncols cy ys nrows h i r) where
+  module _ (i : ℕ) (hi : i < view p .rows) (r : Row) (o : RowOf T nodes C L ncols ys nrows h i r) where
     -- one column of row i
     strip-mark : (j : ℕ) → j < view p .columns
         → stripSame marks cells w r L G cx xs ncols j ≡ agreed (columnFrom len (view p) j) (columnFrom len (view p) (j + 1)) (rowFrom (view p) i) (rowFrom (view p) (i + 1))
@@ -131,8 +131,8 @@ module _ {len : List ℕ → ℕ} {marks : Marks} {p : List Node} (cells : List 
 
   -- row i, once the arrays hold the cells of the row above it, its own and those of the next one, and where lines go on
   module _ (i : ℕ) (hi : i < nrows) (above here next on : List ℕ) (at : Band) (above-is : above ≡ cellsIn T C L i nodes) (here-is : here ≡ cellsIn T C L (i + 1) nodes) (next-is : next ≡ cellsIn T C L (i + 2) nodes)
-      (on-is : (j : ℕ) → j < ncols → getD on j 0 ≡ goesIn here next j (ncols - 1 - j)) (at-is : at ≡ bandAt cy ys nrows h i) where
-    held : RowOf T nodes C L ncols cy ys nrows h i (rowAt above here next on at)
+      (on-is : (j : ℕ) → j < ncols → getD on j 0 ≡ goesIn here next j (ncols - 1 - j)) (at-is : at ≡ bandAt ys nrows h i) where
+    held : RowOf T nodes C L ncols ys nrows h i (rowAt above here next on at)
     held = record {
       above-is = above-is;
       here-is = here-is;

@@ -31,11 +31,10 @@ pub fn bands_same(
     longest: &[u32; 256],
     cx: &[u32; 256],
     xs: &[u32; 256],
-    cy: &[u32; 32],
     ys: &[u32; 32],
 ) -> bool
     requires { ⌜ sight .width * sight .height ≤ length (now cells) ⌝ }
-    requires { ⌜ Ready (lenOf (sight .measure)) (marksIn (sight .marks)) (planSeen (marksIn (sight .marks)) (now cells) (sight .width) (sight .height)) (seen (now cells) (sight .width) (sight .height)) (sight .width) (sight .height) (now table) (n .nodes) (now column) (now lines) (now longest) (now cx) (now xs) (n .ncols) (now cy) (now ys) (n .nrows) ⌝ }
+    requires { ⌜ Ready (lenOf (sight .measure)) (marksIn (sight .marks)) (planSeen (marksIn (sight .marks)) (now cells) (sight .width) (sight .height)) (seen (now cells) (sight .width) (sight .height)) (sight .width) (sight .height) (now table) (n .nodes) (now column) (now lines) (now longest) (now cx) (now xs) (n .ncols) (now ys) (n .nrows) ⌝ }
     ensures { λ r. ⌜ r ≡ alikeIn (seen (now (cells .entry)) (sight .width) (sight .height)) (markAt (lenOf (sight .measure)) (marksIn (sight .marks)) (view (planSeen (marksIn (sight .marks)) (now (cells .entry)) (sight .width) (sight .height))))
         (d (view (planSeen (marksIn (sight .marks)) (now (cells .entry)) (sight .width) (sight .height))) + 4) (sight .width) 3 (sight .height) ⌝ }
 {
@@ -48,7 +47,7 @@ pub fn bands_same(
     while i < n.nrows {
         row_strips::row_cells(table, n.nodes, column, lines, i + 2, &mut next);
         row_strips::onward(&here, &next, n.ncols, &mut on);
-        let at = row_strips::band_of(cy, ys, n.nrows, i, sight.height);
+        let at = row_strips::band_of(ys, n.nrows, i, sight.height);
         if columns_same(
             cells,
             sight,

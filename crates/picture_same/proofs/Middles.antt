@@ -64,7 +64,7 @@ module _ {len : List ℕ → ℕ} {marks : Marks} {cells : List ℕ} {w h nodes 
       ∙ row-centre (depthAt p k) i))
 
   -- all that is asked before the bands are compared
-  pub ready : (r : Bool) → r ≡ centres → r ≡ true → Ready len marks (planSeen marks cells w h) (seen cells w h) w h table nodes column lines most cx xs ncols cy ys nrows
+  pub ready : (r : Bool) → r ≡ centres → r ≡ true → Ready len marks (planSeen marks cells w h) (seen cells w h) w h table nodes column lines most cx xs ncols ys nrows
   ready r e t = record {
     known =
         record {
@@ -72,6 +72,7 @@ module _ {len : List ℕ → ℕ} {marks : Marks} {cells : List ℕ} {w h nodes 
           short = v .short;
           drawable = drawable v;
           small = limits v;
+          cy = cy;
           numbers = n;
           counted = v .gathered .counted;
           room = omega (arith, table-long v);

@@ -6,6 +6,7 @@ ghost use lib.Dec.{eqb};
 ghost use lib.ListN.{length, getD};
 ghost use Rattle.rules.specs.Look.{lenOf, marksIn};
 ghost use Rattle.rules.specs.Levels.{columnAt, view};
+ghost use Rattle.marks.specs.Numbers.{Numbers};
 ghost use Rattle.picture_sight.specs.Seen.{seen};
 ghost use Rattle.picture_sight.specs.Plan.{planSeen};
 ghost use Rattle.tree_view.specs.Sizes.{sumAt};
@@ -53,7 +54,8 @@ fn compared(
     ys: &[u32; 32],
 ) -> bool
     requires { ⌜ (sight .width * sight .height ≤ length (now cells)) × (sight .width * sight .height ≤ 1048576) ⌝ }
-    requires { ⌜ Ready (lenOf (sight .measure)) (marksIn (sight .marks)) (planSeen (marksIn (sight .marks)) (now cells) (sight .width) (sight .height)) (seen (now cells) (sight .width) (sight .height)) (sight .width) (sight .height) (now table) (n .nodes) (now column) (now lines) (now longest) (now cx) (now xs) (n .ncols) (now cy) (now ys) (n .nrows) ⌝ }
+    requires { ⌜ Ready (lenOf (sight .measure)) (marksIn (sight .marks)) (planSeen (marksIn (sight .marks)) (now cells) (sight .width) (sight .height)) (seen (now cells) (sight .width) (sight .height)) (sight .width) (sight .height) (now table) (n .nodes) (now column) (now lines) (now longest) (now cx) (now xs) (n .ncols) (now ys) (n .nrows)
+        × Numbers (lenOf (sight .measure)) (view (planSeen (marksIn (sight .marks)) (now cells) (sight .width) (sight .height))) (sight .width) (sight .height) (n .ncols) (n .nrows) (now cx) (now xs) (now cy) (now ys) ⌝ }
     ensures { λ r. ⌜ Tells r (Drawn (lenOf (sight .measure)) (marksIn (sight .marks)) (now (cells .entry)) (sight .width) (sight .height)) ⌝ }
 {
     let measure = sight.measure;
@@ -80,7 +82,6 @@ fn compared(
             longest,
             cx,
             xs,
-            cy,
             ys,
         );
     }

@@ -49,8 +49,8 @@ use Rattle.size_laws.proofs.Bands.{Fit, mores, band-ends}
 use Rattle.size_laws.proofs.Rows.{row-length, end-columns}
 use Rattle.size_laws.proofs.Titles.{line-extra, lines-tails}
 
-module _ {len : List ℕ → ℕ} {marks : Marks} {p : List Node} {w h : ℕ} {T : List ℕ} {nodes : ℕ} {C L G cx xs : List ℕ} {ncols : ℕ} {cy ys : List ℕ} {nrows : ℕ}
-    (q : Known len marks p w h T nodes C L G cx xs ncols cy ys nrows) {e : ℕ} (ev : Even marks e)
+module _ {len : List ℕ → ℕ} {marks : Marks} {p : List Node} {w h : ℕ} {T : List ℕ} {nodes : ℕ} {C L G cx xs : List ℕ} {ncols : ℕ} {ys : List ℕ} {nrows : ℕ}
+    (q : Known len marks p w h T nodes C L G cx xs ncols ys nrows) {e : ℕ} (ev : Even marks e)
     (sound : (k : ℕ) → k < length p → valid (nodeAt p k .title) ≡ true) where
   drawn : Laid (view p)
   drawn = laid len marks p (q .drawable)
@@ -77,7 +77,7 @@ module _ {len : List ℕ → ℕ} {marks : Marks} {p : List Node} {w h : ℕ} {T
       ∙ line-extra l (longest len c) (lines-valid (c .title) v l i) (line-room len marks (q .lawful) c l i)))
       ∙ lines-tails (c .title))
 
-  module _ (i : ℕ) (hi : i < view p .rows) (r : Row) (o : RowOf T nodes C L ncols cy ys nrows h i r) where
+  module _ (i : ℕ) (hi : i < view p .rows) (r : Row) (o : RowOf T nodes C L ncols ys nrows h i r) where
     -- ---- one column
     module _ (j : ℕ) (hj : j < view p .columns) where
       abbrev a : ℕ

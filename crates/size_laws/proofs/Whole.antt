@@ -24,7 +24,7 @@ use Rattle.row_strips.specs.Row.{Row, RowOf}
 use Rattle.row_strips.specs.Parts.{columnFrom, rowFrom}
 use Rattle.row_strips.specs.Strip.{spotIn}
 use Rattle.row_strips.specs.Known.{Known}
-use Rattle.row_strips.proofs.Ranges.{column-part, row-part, row-stop, row-last, column-last, row-bends}
+use Rattle.row_strips.proofs.Ranges.{column-part, row-part, row-stop, row-last, column-last, row-bends, row-middles}
 use Rattle.size_laws.specs.Sums.{sum, extra}
 use Rattle.size_laws.specs.Even.{Even}
 use Rattle.size_laws.specs.Columns.{Ends, orElse, rowEnd, fieldMore, endsFrom, bandSize}
@@ -35,8 +35,8 @@ use Rattle.size_laws.proofs.Rows.{row-length, end-columns, text-length}
 use Rattle.size_laws.proofs.Drawn.{starts, stops, fit, column-more, column-ends}
 use Rattle.size_laws.proofs.Outside.{margin-extra, margin-end, row-0, row-1, row-2}
 
-module _ {len : List ℕ → ℕ} {marks : Marks} {p : List Node} {w h : ℕ} {T : List ℕ} {nodes : ℕ} {C L G cx xs : List ℕ} {ncols : ℕ} {cy ys : List ℕ} {nrows : ℕ}
-    (q : Known len marks p w h T nodes C L G cx xs ncols cy ys nrows) {e : ℕ} (ev : Even marks e)
+module _ {len : List ℕ → ℕ} {marks : Marks} {p : List Node} {w h : ℕ} {T : List ℕ} {nodes : ℕ} {C L G cx xs : List ℕ} {ncols : ℕ} {ys : List ℕ} {nrows : ℕ}
+    (q : Known len marks p w h T nodes C L G cx xs ncols ys nrows) {e : ℕ} (ev : Even marks e)
     (sound : (k : ℕ) → k < length p → valid (nodeAt p k .title) ≡ true) where
   drawn : Laid (view p)
   drawn = laid len marks p (q .drawable)
@@ -71,7 +71,7 @@ module _ {len : List ℕ → ℕ} {marks : Marks} {p : List Node} {w h : ℕ} {T
       let m = sum-from f (cut 0) ∙ ap (total f) cut-first ∙ margin-extra len marks (view p) (q .lawful) (drawn .proper-view) (drawn .rising-view) (drawn .few-rows) ev y b in
       omega (arith, sum-from f W, j, m, rw l at (s .1))
 
-  module _ (i : ℕ) (hi : i < view p .rows) (r : Row) (o : RowOf T nodes C L ncols cy ys nrows h i r) where
+  module _ (i : ℕ) (hi : i < view p .rows) (r : Row) (o : RowOf T nodes C L ncols ys nrows h i r) where
     abbrev S : ℕ → Spot
     S = spotIn r L G cx
 
@@ -114,7 +114,7 @@ module _ {len : List ℕ → ℕ} {marks : Marks} {p : List Node} {w h : ℕ} {T
     spread =
         let d = row-part len marks (view p) i hi in
         let t = o .top-is ∙ q .numbers .y-is i hi in
-        let m = o .middle-is ∙ q .numbers .cy-is i hi ∙ d .middle in
+        let m = o .middle-is ∙ row-middles len marks (view p) (q .numbers) i hi ∙ d .middle in
         let b = o .bend-is ∙ row-bends len marks (view p) (q .numbers) i hi in
         (omega arith, omega (arith, end-is, d .to-least), omega (arith, end-is, d .to-least))
 

@@ -27,7 +27,7 @@ use Rattle.row_strips.specs.Row.{some, seenTo}
 use Rattle.row_strips.specs.Parts.{rowFrom}
 use Rattle.row_strips.specs.Strip.{spotIn, Apt}
 use Rattle.row_strips.proofs.Made.{made}
-use Rattle.row_strips.proofs.Ranges.{column-part, row-part, row-stop, row-bends}
+use Rattle.row_strips.proofs.Ranges.{column-part, row-part, row-stop, row-bends, row-middles}
 use Rattle.row_strips.proofs.Spots.{node-there, apt}
 use Rattle.size_laws.specs.Sums.{extra}
 use Rattle.size_laws.specs.Even.{Even}
@@ -75,7 +75,7 @@ module _ {S T B L G cx xs above here next on : List ℕ} {at : Place} (q : Acros
       let d = row-part (q .len) (q .marks) v (q .i) row-in in
       let n = q .known .numbers in
       let e : at .end ≡ rowFrom v (q .i + 1) = q .cells .end-is ∙ row-stop (q .len) (q .marks) v n (q .i) row-in in
-      let m : at .middle ≡ cy v (q .i) = q .cells .middle-is ∙ n .cy-is (q .i) row-in in
+      let m : at .middle ≡ cy v (q .i) = q .cells .middle-is ∙ row-middles (q .len) (q .marks) v n (q .i) row-in in
       let t : at .top ≡ rowOffset v (q .i) = q .cells .top-is ∙ n .y-is (q .i) row-in in
       let b = q .cells .bend-is ∙ row-bends (q .len) (q .marks) v n (q .i) row-in in
       (omega (arith, d .middle), omega (arith, d .middle, d .to-least, d .high), omega (arith, d .on-canvas, n .high), omega (arith, d .middle))

@@ -57,11 +57,10 @@ pub record Across (S T B lines longest cx xs above here next on : List ℕ) (at 
   pub nrows : ℕ
   pub i : ℕ
   pub column : List ℕ
-  pub cy : List ℕ
   pub ys : List ℕ
   pub showable : Showable (at .given) S T B
-  pub known : Known len marks (planShown (at .given) S T B) (at .width) height T nodes column lines longest cx xs (at .ncols) cy ys nrows
+  pub known : Known len marks (planShown (at .given) S T B) (at .width) height T nodes column lines longest cx xs (at .ncols) ys nrows
   pub row-in : i < nrows
-  pub cells : RowOf T nodes column lines (at .ncols) cy ys nrows height i (rowAt above here next on at)
+  pub cells : RowOf T nodes column lines (at .ncols) ys nrows height i (rowAt above here next on at)
   pub area : at .width * height ≤ 1048576
   pub even : Even marks (at .e)

@@ -1,6 +1,5 @@
 -- The plan is refused for one of three reasons, or accepted and delivered.
 use mathlib.Core.Path.{refl}
-use Rattle.rules.specs.Look.{Look}
 use Rattle.picture_sight.specs.Plan.{planSeen}
 use Rattle.rules.proofs.Kept.{every-byte}
 use Rattle.text.proofs.Counted.{len-most}

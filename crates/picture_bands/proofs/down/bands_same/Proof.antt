@@ -1,7 +1,7 @@
 -- The rows before i agree, and the arrays hold the nodes of the row above row i and of row i; a row that does not agree answers for all.
 use mathlib.Core.Bool.{true}
 use mathlib.Core.Path.{_≡_, refl, ap, sym, _∙_}
-use Prim.Native.Nat.{ℕ, _+_, _-_, _≤_, _<_}
+use Prim.Native.Nat.{ℕ, _+_, _-_, _≤_}
 use native.Mathlib.Omega.{arith}
 use lib.ListN.{length}
 use Rattle.rules.specs.Look.{lenOf, marksIn}
@@ -21,13 +21,13 @@ use Rattle.picture_bands.proofs.down.bands_same.Statement.{statement}
 use Rattle.picture_bands.proofs.down.bands_same.Tie as tie
 
 abbrev Inv-loop : tie.InvT-loop
-Inv-loop cells sight n table column lines longest cx xs cy ys above₀ here₀ next₀ on₀ i₀ above here next on i =
+Inv-loop cells sight n table column lines longest cx xs ys above₀ here₀ next₀ on₀ i₀ above here next on i =
     (i ≤ n .nrows) × (above ≡ cellsIn table column lines i (n .nodes)) × (here ≡ cellsIn table column lines (i + 1) (n .nodes)) × (length on ≡ 256)
     × (alikeIn (seen cells (sight .width) (sight .height)) (markAt (lenOf (sight .measure)) (marksIn (sight .marks)) (view (planSeen (marksIn (sight .marks)) cells (sight .width) (sight .height))))
     (d (view (planSeen (marksIn (sight .marks)) cells (sight .width) (sight .height))) + 4) (sight .width) 3 (rowFrom (view (planSeen (marksIn (sight .marks)) cells (sight .width) (sight .height))) i) ≡ true)
 
 abbrev μ-loop : tie.MeasureT-loop
-μ-loop cells sight n table column lines longest cx xs cy ys above₀ here₀ next₀ on₀ i₀ above here next on i =
+μ-loop cells sight n table column lines longest cx xs ys above₀ here₀ next₀ on₀ i₀ above here next on i =
     n .nrows - i
 
 row-cells-requires : tie.Need-row-cells-requires Inv-loop μ-loop
@@ -61,8 +61,8 @@ band-of-requires : tie.Need-band-of-requires Inv-loop μ-loop
 band-of-requires c κs =
     let at-if1 = c .before .before .before .before .before .before in
     let at-loop = at-if1 .before .before in
-    let m = made (at-loop .before .before .before .before .before .pre .1 .known) in
-    ((at-if1 .if1 .taken, m .rows-few, m .height-few), m .gaps (at-loop .loop .i))
+    let s = at-loop .before .before .before .before .before in
+    made (s .pre .1 .known) .bands (at-loop .loop .i) (at-if1 .if1 .taken)
 
 columns-same-requires : tie.Need-columns-same-requires Inv-loop μ-loop
 columns-same-requires c κs =

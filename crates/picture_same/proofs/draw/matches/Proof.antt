@@ -41,7 +41,7 @@ compared-requires c κs =
     let v = s .pre .0 in
     let (k, r) = s .pre .1 .1 in
     let n = sized-numbers v k (rows-laid v _ _ r (at-tree-rows .tree-rows .ensures)) r _ (at-if1 .before .sized .ensures) (at-if1 .if1 .taken) _ (at-row-centers .row-centers .ensures) in
-    ((v .fits, v .small), ready v (s .args .column .now) (s .pre .1 .0) n _ (c .before .before .before .before .centers-same .ensures) (c .before .before .before .if2 .taken))
+    ((v .fits, v .small), (ready v (s .args .column .now) (s .pre .1 .0) n _ (c .before .before .before .before .centers-same .ensures) (c .before .before .before .if2 .taken), n))
 
 returns : tie.Need-returns
 returns c = c .compared .ensures
