@@ -3,8 +3,8 @@ use Prim.Native.Nat.{_*_, _≤_}
 use lib.ListN.{length}
 use Rattle.canvas.proofs.Stroked.{then}
 use borrow.Author.Needs.{needs}
-use Rattle.connections.proofs.connect.stem.Statement.{statement}
-use Rattle.connections.proofs.connect.stem.Tie as tie
+use Rattle.connections.proofs.connect.plumb.Statement.{statement}
+use Rattle.connections.proofs.connect.plumb.Tie as tie
 
 symbol-requires : tie.Need-symbol-requires
 symbol-requires c κs = search needs
@@ -29,18 +29,20 @@ same-length c = search needs
 
 returns : tie.Need-returns
 returns c =
-    let a = c .before .before .before .before .before .before .before .before .before .before .before .before .before .args in
+    let at-down = c .before .before .before .before .before .before in
+    let at-symbol = at-down .before .before .before .before in
+    let a = at-symbol .before .before .before .args in
     let w = a .size .width in
     let h = a .size .height in
     let room : w * h ≤ length (a .cells .now) = search needs in
     then w h _ _ _ _ _ room
     (then w h _ _ _ _ _ room
-    (c .before .before .before .before .before .before .before .before .before .before .symbol .ensures)
-    (c .before .before .before .before .before .before .down .ensures))
+    (at-symbol .symbol .ensures)
+    (at-down .down .ensures))
     (c .before .before .symbol2 .ensures)
 
-pub stem-spec : {M : Type 1} → statement M
-stem-spec =
+pub plumb-spec : {M : Type 1} → statement M
+plumb-spec =
     tie.close
     (tie.spec
     symbol-requires
