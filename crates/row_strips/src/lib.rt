@@ -8,5 +8,6 @@ pub use band::Band;
 pub use band::band_of;
 pub use column::column_end;
 pub use column::spot_of;
+pub use nodes::first_cell;
 pub use nodes::onward;
 pub use nodes::row_cells;

@@ -1,12 +1,11 @@
 -- What one column of a row asks for and is told, by the arrays of its plan: the letters of its title, its spot, and the room it has.
-use mathlib.Core.Path.{_≡_, refl, ap, sym, _∙_}
+use mathlib.Core.Path.{_≡_, ap, sym, _∙_}
 use mathlib.Core.List.{List}
-use mathlib.Core.Bool.{Bool, true, false, not, _&&_}
-use Prim.Native.Nat.{ℕ, suc, zero, _+_, _*_, _-_, _≤_, _<_, min}
+use mathlib.Core.Bool.{Bool, true}
+use Prim.Native.Nat.{ℕ, _+_, _*_, _-_, _≤_, _<_}
 use native.Mathlib.Omega.{arith}
 use native.Mathlib.Nat.{mul-le-mul-right, mul-comm}
 use native.Mathlib.Decide.{ℕ-discrete}
-use lib.Dec.{leb, eqb}
 use lib.ListN.{length, getD}
 use borrow.Author.Tests.{ne-eqb}
 use Rattle.rules.specs.Base.{pick, first, halfUp}
@@ -19,11 +18,10 @@ use Rattle.rules.specs.Drawing.{Marks}
 use Rattle.rules.proofs.Codec.{utf8-size}
 use Rattle.levels.specs.Shown.{planShown, Showable}
 use Rattle.levels.proofs.Shown.{title-shown, shows}
-use Rattle.utf8.specs.Begun.{begun}
 use Rattle.utf8.proofs.Begun.{begun-points, begun-most}
 use Rattle.marks.specs.Numbers.{endAt}
 use Rattle.row_shapes.specs.Plain.{plain}
-use Rattle.row_strips.specs.Row.{some, seenTo}
+use Rattle.row_strips.specs.Row.{some}
 use Rattle.row_strips.specs.Parts.{rowFrom}
 use Rattle.row_strips.specs.Strip.{spotIn, Apt}
 use Rattle.row_strips.proofs.Made.{made}
@@ -32,10 +30,9 @@ use Rattle.row_strips.proofs.Spots.{node-there, apt}
 use Rattle.size_laws.specs.Sums.{extra}
 use Rattle.size_laws.specs.Even.{Even}
 use Rattle.size_laws.specs.Size.{ownOf}
-use Rattle.size_tally.specs.Slight.{Boxed, Slight}
 use Rattle.text_size.specs.declared.across.Place.{Place}
 use Rattle.text_size.specs.Across.{jointBy, spotAt, Asks, rowAt, Across}
-use Rattle.text_size.proofs.Seen.{seen-first}
+use Rattle.row_strips.proofs.Firsts.{seen-first}
 
 -- ---- a title
 pub record Letters (own : ℕ) (t : List ℕ) : Type 0 where

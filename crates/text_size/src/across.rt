@@ -2,10 +2,8 @@
 ghost use mathlib.Core.Path.{_≡_};
 ghost use Prim.Native.Nat.{_≤_, _<_};
 ghost use lib.ListN.{getD};
-ghost use Rattle.rules.specs.Base as base;
 ghost use Rattle.levels.specs.Shown.{planShown};
 ghost use Rattle.row_shapes.specs.Plain.{plain};
-ghost use Rattle.row_strips.specs.Row.{some};
 ghost use Rattle.row_strips.specs.Strip.{sizeOf};
 ghost use Rattle.size_laws.specs.Columns.{taken};
 ghost use Rattle.size_laws.specs.Size.{ownOf, tallyIn};
@@ -32,21 +30,6 @@ pub struct Joint {
     pub up: bool,
     pub child: bool,
     pub on: bool,
-}
-
-// The first of n columns that has a cell; n if none has.
-fn first_cell(cells: &[u16; 256], n: usize) -> usize
-    requires { ⌜ n ≤ 256 ⌝ }
-    ensures { λ r. ⌜ r ≡ base.first (λ j. some (now (cells .entry)) j) n ⌝ }
-{
-    let mut j = 0;
-    while j < n {
-        if cells[j] != 0 {
-            return j;
-        }
-        j += 1;
-    }
-    n
 }
 
 // Column j, `first` and `over` being the first columns with a cell of the row and of the one above.
@@ -136,8 +119,8 @@ pub(crate) fn tally<'a>(
     ensures { λ r. ⌜ (r ≡ tallyIn (planShown (at .given) (now (standin .entry)) (now (table .entry)) (now (titles .entry))) (rowAt (now (above .entry)) (now (here .entry)) (now (next .entry)) (now (on .entry)) at) (now (lines .entry)) (now (longest .entry)) (now (cx .entry)) (now (xs .entry)) (at .ncols) (at .width) (at .e) 0 (at .ncols)) × Kept r ⌝ }
 {
     let n = text::wide(at.ncols);
-    let first = first_cell(here, n);
-    let over = first_cell(above, n);
+    let first = row_strips::first_cell(here, n);
+    let over = row_strips::first_cell(above, n);
     let mut t = Tally {
         lo: at.middle,
         hi: at.middle,

@@ -3,11 +3,11 @@ use mathlib.Core.Path.{_≡_}
 use mathlib.Core.Bool.{false}
 use Prim.Native.Nat.{ℕ, _≤_, _<_, _-_}
 use native.Mathlib.Omega.{arith}
 use Rattle.row_strips.specs.Row.{some}
-use Rattle.text_size.proofs.Seen.{first-found, first-not, first-none-of}
+use Rattle.row_strips.proofs.Firsts.{first-found, first-not, first-none-of}
 use borrow.Author.Needs.{needs}
-use Rattle.text_size.proofs.across.first_cell.Statement.{statement}
-use Rattle.text_size.proofs.across.first_cell.Tie as tie
+use Rattle.row_strips.proofs.nodes.first_cell.Statement.{statement}
+use Rattle.row_strips.proofs.nodes.first_cell.Tie as tie
 
 abbrev Inv-loop : tie.InvT-loop
 Inv-loop cells n j₀ j = (j ≤ n) × ((k : ℕ) → k < j → some cells k ≡ false)
