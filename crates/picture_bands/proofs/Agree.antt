@@ -23,13 +23,13 @@ use Rattle.marks.proofs.Picture.{Laid, laid}
 use Rattle.marks.proofs.Spots.{spot-field, mark-block}
 use Rattle.picture_sight.specs.Seen.{seen}
 use Rattle.row_strips.specs.declared.band.Band.{Band}
-use Rattle.row_strips.specs.Row.{Row, RowOf, cellsIn, goesIn, bandAt}
+use Rattle.row_strips.specs.Row.{Row, RowOf, cellsIn, goesIn, bandAt, rowWith}
 use Rattle.row_strips.specs.Strip.{spotIn, Apt}
 use Rattle.row_strips.specs.Parts.{columnFrom, rowFrom}
 use Rattle.row_strips.proofs.Ranges.{column-part, row-part, column-stop, row-stop, row-bends, column-last, row-last}
 use Rattle.row_strips.proofs.Made.{made}
 use Rattle.row_strips.proofs.Spots.{spotted, apt}
-use Rattle.picture_bands.specs.Strip.{rowAt, stripSame, stripsSame}
+use Rattle.picture_bands.specs.Strip.{stripSame, stripsSame}
 use Rattle.picture_bands.specs.Ready.{Ready}
 use Rattle.picture_bands.proofs.Strips.{strips-none, strips-next}
 
@@ -132,7 +132,7 @@ module _ {len : List ℕ → ℕ} {marks : Marks} {p : List Node} (cells : List 
   -- row i, once the arrays hold the cells of the row above it, its own and those of the next one, and where lines go on
   module _ (i : ℕ) (hi : i < nrows) (above here next on : List ℕ) (at : Band) (above-is : above ≡ cellsIn T C L i nodes) (here-is : here ≡ cellsIn T C L (i + 1) nodes) (next-is : next ≡ cellsIn T C L (i + 2) nodes)
       (on-is : (j : ℕ) → j < ncols → getD on j 0 ≡ goesIn here next j (ncols - 1 - j)) (at-is : at ≡ bandAt ys nrows h i) where
-    held : RowOf T nodes C L ncols ys nrows h i (rowAt above here next on at)
+    held : RowOf T nodes C L ncols ys nrows h i (rowWith above here next on at)
     held = record {
       above-is = above-is;
       here-is = here-is;
@@ -149,15 +149,15 @@ module _ {len : List ℕ → ℕ} {marks : Marks} {p : List Node} (cells : List 
 
     -- what is asked of its columns
     pub columns-ask : w * h ≤ length cells
-        → ((at .end * w ≤ length cells) × (at .top ≤ at .bend) × (ncols ≤ 256)) × ((j : ℕ) → j < ncols → Apt w (rowAt above here next on at) L G cx xs ncols j)
+        → ((at .end * w ≤ length cells) × (at .top ≤ at .bend) × (ncols ≤ 256)) × ((j : ℕ) → j < ncols → Apt w (rowWith above here next on at) L G cx xs ncols j)
     columns-ask f =
-        let g = row-fits i row-in (rowAt above here next on at) held f in
-        ((g .0, g .1, made (q .known) .columns-few), λ j b. apt (q .known) i j row-in (omega (arith, q .known .numbers .columns-are)) (rowAt above here next on at) held)
+        let g = row-fits i row-in (rowWith above here next on at) held f in
+        ((g .0, g .1, made (q .known) .columns-few), λ j b. apt (q .known) i j row-in (omega (arith, q .known .numbers .columns-are)) (rowWith above here next on at) held)
 
     -- they agree, and so do the rows up to the next; or they do not, nor do all rows
-    module _ (r : Bool) (e : r ≡ stripsSame marks cells w (rowAt above here next on at) L G cx xs ncols ncols) where
+    module _ (r : Bool) (e : r ≡ stripsSame marks cells w (rowWith above here next on at) L G cx xs ncols ncols) where
       pub row-agrees : r ≡ true → agreed (M.d (view p) + 4) w 3 (rowFrom (view p) i) ≡ true → agreed (M.d (view p) + 4) w 3 (rowFrom (view p) (i + 1)) ≡ true
-      row-agrees t f = rows-more i row-in f (sym t ∙ e ∙ band-mark i row-in (rowAt above here next on at) held)
+      row-agrees t f = rows-more i row-in f (sym t ∙ e ∙ band-mark i row-in (rowWith above here next on at) held)
 
       pub row-differs : r ≡ false → false ≡ agreed (M.d (view p) + 4) w 3 h
-      row-differs t = rows-not i row-in (sym t ∙ e ∙ band-mark i row-in (rowAt above here next on at) held)
+      row-differs t = rows-not i row-in (sym t ∙ e ∙ band-mark i row-in (rowWith above here next on at) held)

@@ -9,13 +9,8 @@ use Rattle.rules.proofs.Candidate.{from}
 use Rattle.marks.specs.Alike.{alikeIn}
 use Rattle.marks.specs.Spot.{spotMark}
 use Rattle.marks.specs.Numbers.{endAt}
-use Rattle.row_strips.specs.declared.band.Band.{Band}
-use Rattle.row_strips.specs.Row.{Row, rowBy}
+use Rattle.row_strips.specs.Row.{Row}
 use Rattle.row_strips.specs.Strip.{spotIn}
-
--- the row of these cells in a band
-abbrev pub rowAt : (above here next on : List ℕ) → Band → Row
-rowAt above here next on at = rowBy above here next on (at .top) (at .end) (at .bend) (at .middle)
 
 -- the marks in column j of a row are its spot's
 unfoldable pub stripSame : (marks : Marks) (cells : List ℕ) (width : ℕ) (r : Row) (lines longest cx xs : List ℕ) (ncols j : ℕ) → Bool

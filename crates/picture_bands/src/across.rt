@@ -6,22 +6,12 @@ ghost use lib.Dec.{eqb};
 ghost use lib.ListN.{length};
 ghost use Rattle.rules.specs.Base.{halfUp};
 ghost use Rattle.rules.specs.Look.{marksIn};
+ghost use Rattle.row_strips.specs.Row.{rowWith};
 ghost use Rattle.row_strips.specs.Strip.{sizeOf, spotOf, Apt};
-ghost use Rattle.picture_bands.specs.Strip.{rowAt, stripsSame};
+ghost use Rattle.picture_bands.specs.Strip.{stripsSame};
 use picture_sight::Sight;
 use row_shapes::Spot;
 use row_strips::Band;
-
-// What a list has of node k - 1; 0 where k is 0.
-fn size_of(sizes: &[u32; 256], k: usize) -> u32
-    requires { ⌜ k ≤ 256 ⌝ }
-    ensures { λ r. ⌜ r ≡ sizeOf (now (sizes .entry)) k ⌝ }
-{
-    if k == 0 {
-        return 0;
-    }
-    sizes[k - 1]
-}
 
 // The spot of a column with its centre at x, where node k - 1 stands; of no lines where k is 0.
 fn spot_at(
@@ -47,8 +37,8 @@ fn spot_at(
         at.bend,
         x,
         at.middle,
-        size_of(lines, k),
-        size_of(longest, k),
+        row_strips::size_of(lines, k),
+        row_strips::size_of(longest, k),
     )
 }
 
@@ -68,8 +58,8 @@ pub(crate) fn columns_same(
     xs: &[u32; 256],
 ) -> bool
     requires { ⌜ (at .end * sight .width ≤ length (now cells)) × (at .top ≤ at .bend) × (ncols ≤ 256) ⌝ }
-    requires { ⌜ ((j : ℕ) → j < ncols → Apt (sight .width) (rowAt (now above) (now here) (now next) (now on) at) (now lines) (now longest) (now cx) (now xs) ncols j) ⌝ }
-    ensures { λ r. ⌜ r ≡ stripsSame (marksIn (sight .marks)) (now (cells .entry)) (sight .width) (rowAt (now (above .entry)) (now (here .entry)) (now (next .entry)) (now (on .entry)) at) (now (lines .entry)) (now (longest .entry)) (now (cx .entry)) (now (xs .entry)) ncols ncols ⌝ }
+    requires { ⌜ ((j : ℕ) → j < ncols → Apt (sight .width) (rowWith (now above) (now here) (now next) (now on) at) (now lines) (now longest) (now cx) (now xs) ncols j) ⌝ }
+    ensures { λ r. ⌜ r ≡ stripsSame (marksIn (sight .marks)) (now (cells .entry)) (sight .width) (rowWith (now (above .entry)) (now (here .entry)) (now (next .entry)) (now (on .entry)) at) (now (lines .entry)) (now (longest .entry)) (now (cx .entry)) (now (xs .entry)) ncols ncols ⌝ }
 {
     let n = text::wide(ncols);
     let mut seen = false;

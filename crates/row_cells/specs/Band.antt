@@ -9,7 +9,7 @@ use Rattle.rules.specs.Plan.{Node}
 use Rattle.rules.specs.Drawing.{Marks}
 use Rattle.levels.specs.Shown.{planShown, Showable}
 use Rattle.row_strips.specs.declared.band.Band.{Band}
-use Rattle.row_strips.specs.Row.{Row, some, seenTo, rowBy, RowOf}
+use Rattle.row_strips.specs.Row.{Row, some, seenTo, RowOf, rowWith}
 use Rattle.row_strips.specs.Known.{Known}
 use Rattle.row_cells.specs.declared.cell.Joint.{Joint}
 use Rattle.row_cells.specs.Cursor.{CursorOf}
@@ -31,10 +31,6 @@ pub record Cursors (p : List Node) (lines here : List ℕ) (middle ncols y : ℕ
   pub sized : length from ≡ 256
   pub at : (j : ℕ) → j < ncols → CursorOf p lines middle (getD here j 0) (getD from j 0) y
 
--- the cells of a row, where it begins and ends, bends and has its middle
-abbrev pub rowIn : (above here next on : List ℕ) → Band → Row
-rowIn above here next on b = rowBy above here next on (b .top) (b .end) (b .bend) (b .middle)
-
 -- who stands in column j and which lines are there, `over` being the first column with a cell of the row above
 abbrev pub jointAt : (over : ℕ) (here next on cx : List ℕ) (j : ℕ) → Joint
 jointAt over here next on cx j =
@@ -55,6 +51,6 @@ pub record Above (len : List ℕ → ℕ) (marks : Marks) (given : Bool) (S T B 
   pub ys : List ℕ
   pub above : List ℕ
   pub ready : Ready len marks given S T B wide height nodes column lines longest cx xs ncols ys nrows
-  pub within : Within T nodes column lines ncols ys nrows height i (rowIn above here next on b) y
+  pub within : Within T nodes column lines ncols ys nrows height i (rowWith above here next on b) y
   pub over-is : First above ncols over
   pub low : y < b .bend

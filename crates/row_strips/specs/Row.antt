@@ -61,6 +61,10 @@ pub record Row : Type 0 where
 abbrev pub rowBy : (above here next on : List ℕ) (top end bend middle : ℕ) → Row
 rowBy above here next on top end bend middle = record { above = above; here = here; next = next; on = on; top = top; end = end; bend = bend; middle = middle }
 
+-- and by its band
+abbrev pub rowWith : (above here next on : List ℕ) → Band → Row
+rowWith above here next on b = rowBy above here next on (b .top) (b .end) (b .bend) (b .middle)
+
 -- row i of a table
 pub record RowOf (table : List ℕ) (nodes : ℕ) (column lines : List ℕ) (ncols : ℕ) (ys : List ℕ) (nrows height i : ℕ) (r : Row) : Type 0 where
   pub above-is : r .above ≡ cellsIn table column lines i nodes

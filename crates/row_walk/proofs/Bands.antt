@@ -23,7 +23,7 @@ use Rattle.marks.proofs.Picture.{Laid, laid}
 use Rattle.tree_view.proofs.Limits.{d-le}
 use Rattle.canvas_text.specs.Emit.{rowIn}
 use Rattle.row_strips.specs.declared.band.Band.{Band}
-use Rattle.row_strips.specs.Row.{Row, RowOf, cellsIn, bendIn}
+use Rattle.row_strips.specs.Row.{Row, RowOf, cellsIn, bendIn, rowWith}
 use Rattle.row_strips.proofs.Made.{made}
 use Rattle.row_strips.specs.Parts.{columnFrom, rowFrom}
 use Rattle.row_strips.proofs.Ranges.{column-part, row-part, row-bends, row-middles}
@@ -32,7 +32,6 @@ use Rattle.row_laws.specs.Part.{ShowsTo}
 use Rattle.row_bands.specs.Gap.{bendsInk, dropsInk}
 use Rattle.row_bands.proofs.Margins.{margin-shown}
 use Rattle.row_bands.proofs.Shown.{bend-asks, drop-asks, bend-shown, drop-shown}
-use Rattle.row_cells.specs.Band as Cells
 use Rattle.row_cells.specs.Band.{Within, Cursors, Above}
 use Rattle.row_cells.proofs.Columns.{cursor-start}
 use Rattle.row_walk.specs.declared.band.Part.{Part}
@@ -58,7 +57,7 @@ module _ {at : Part} {S T B L G cx xs here next on : List ℕ} (b : Banded at S 
   i = at .i
 
   abbrev r : Row
-  r = Cells.rowIn (cellsIn T (b .placed .column) L i (b .placed .nodes)) here next on a
+  r = rowWith (cellsIn T (b .placed .column) L i (b .placed .nodes)) here next on a
 
   cells : RowOf T (b .placed .nodes) (b .placed .column) L (at .ncols) (b .placed .ys) (b .placed .nrows) (b .placed .height) i r
   cells =

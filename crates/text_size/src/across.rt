@@ -4,7 +4,6 @@ ghost use Prim.Native.Nat.{_≤_, _<_};
 ghost use lib.ListN.{getD};
 ghost use Rattle.levels.specs.Shown.{planShown};
 ghost use Rattle.row_shapes.specs.Plain.{plain};
-ghost use Rattle.row_strips.specs.Strip.{sizeOf};
 ghost use Rattle.size_laws.specs.Columns.{taken};
 ghost use Rattle.size_laws.specs.Size.{ownOf, tallyIn};
 ghost use Rattle.size_tally.specs.Slight.{Kept, Grown};
@@ -54,17 +53,6 @@ fn joint_at(
     }
 }
 
-// What a list has of node k - 1; 0 where k is 0.
-fn size_of(sizes: &[u32; 256], k: usize) -> u32
-    requires { ⌜ k ≤ 256 ⌝ }
-    ensures { λ r. ⌜ r ≡ sizeOf (now (sizes .entry)) k ⌝ }
-{
-    if k == 0 {
-        return 0;
-    }
-    sizes[k - 1]
-}
-
 // One column more, from a up to b, with its centre at x. (Most columns of a row have nothing in them.)
 fn step<'a>(
     t: Tally,
@@ -94,8 +82,8 @@ fn step<'a>(
         at.bend,
         x,
         at.middle,
-        size_of(lines, q.k),
-        size_of(longest, q.k),
+        row_strips::size_of(lines, q.k),
+        row_strips::size_of(longest, q.k),
     );
     size_tally::take(t, s, at.e, at.top, at.end, a, b, own)
 }

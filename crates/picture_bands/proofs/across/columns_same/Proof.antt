@@ -5,8 +5,8 @@ use mathlib.Core.Bool.{true}
 use Prim.Native.Nat.{_≤_, _-_}
 use native.Mathlib.Omega.{arith}
 use Rattle.rules.specs.Look.{marksIn}
-use Rattle.picture_bands.specs.Strip.{rowAt, stripsSame}
-use Rattle.row_strips.specs.Row.{seenTo}
+use Rattle.picture_bands.specs.Strip.{stripsSame}
+use Rattle.row_strips.specs.Row.{seenTo, rowWith}
 use Rattle.row_strips.proofs.Entries.{seen-step}
 use Rattle.picture_bands.proofs.Strips.{fits-spot, strip-is, strips-none, strips-more, strips-not}
 use borrow.Author.Needs.{needs}
@@ -16,7 +16,7 @@ use Rattle.picture_bands.proofs.across.columns_same.Tie as tie
 abbrev Inv-loop : tie.InvT-loop
 Inv-loop cells sight at ncols above here next on lines longest cx xs n seen₀ over₀ j₀ seen over j =
     (j ≤ ncols) × (seen ≡ seenTo here j) × (over ≡ seenTo above j)
-    × (stripsSame (marksIn (sight .marks)) cells (sight .width) (rowAt above here next on at) lines longest cx xs ncols j ≡ true)
+    × (stripsSame (marksIn (sight .marks)) cells (sight .width) (rowWith above here next on at) lines longest cx xs ncols j ≡ true)
 
 abbrev μ-loop : tie.MeasureT-loop
 μ-loop cells sight at ncols above here next on lines longest cx xs n seen₀ over₀ j₀ seen over j = ncols - j
@@ -28,7 +28,7 @@ loop-holds : tie.Need-loop-holds Inv-loop μ-loop
 unfolding seenTo
 loop-holds c =
     let s = c .before .before .args in
-    (search needs, refl, refl, strips-none (marksIn (s .sight .marks)) (s .cells .now) (s .sight .width) (rowAt (s .above .now) (s .here .now) (s .next .now) (s .on .now) (s .at)) (s .lines .now) (s .longest .now) (s .cx .now) (s .xs .now) (s .ncols))
+    (search needs, refl, refl, strips-none (marksIn (s .sight .marks)) (s .cells .now) (s .sight .width) (rowWith (s .above .now) (s .here .now) (s .next .now) (s .on .now) (s .at)) (s .lines .now) (s .longest .now) (s .cx .now) (s .xs .now) (s .ncols))
 
 mul-k : tie.Need-mul-k Inv-loop μ-loop
 mul-k c = search needs
@@ -84,7 +84,7 @@ block-same-requires c κs =
     let at-loop-test = at-spot-at .before .before .before .before .before .before in
     let at-wide = at-loop-test .before .before in
     let s = at-wide .before .before in
-    let r = rowAt (s .args .above .now) (s .args .here .now) (s .args .next .now) (s .args .on .now) (s .args .at) in
+    let r = rowWith (s .args .above .now) (s .args .here .now) (s .args .next .now) (s .args .on .now) (s .args .at) in
     let q = s .pre .1 (at-loop-test .before .loop .j) (rw (at-wide .wide .ensures) at (at-loop-test .loop-test .taken)) .room in
     rw (c .before .column-end .ensures)
     (q .on-canvas, s .pre .0 .0, fits-spot (at-spot-at .spot-at .result) (s .args .sight .width) r _ _ _ _ _ _ _ _ _ (at-spot-at .spot-at .ensures) q (s .pre .0 .1))
@@ -102,7 +102,7 @@ loop-again c =
     let l = at-loop-test .before .loop in
     let at-wide = at-loop-test .before .before in
     let a = at-wide .before .before .args in
-    let r = rowAt (a .above .now) (a .here .now) (a .next .now) (a .on .now) (a .at) in
+    let r = rowWith (a .above .now) (a .here .now) (a .next .now) (a .on .now) (a .at) in
     let w =
     strip-is (marksIn (a .sight .marks)) (a .cells .now) (a .sight .width) r (a .lines .now) (a .longest .now) (a .cx .now) (a .xs .now) (a .ncols) (l .j) _ (at-spot-at .spot-at .result) (l .seen) (l .over) _ (l .inv .1) (l .inv .2)
     (at-spot-at .spot-at .ensures) (c .before .before .before .column-end .ensures) (c .before .block-same .ensures)
@@ -120,7 +120,7 @@ returns c =
     let l = at-loop-test .before .loop in
     let at-wide = at-loop-test .before .before in
     let a = at-wide .before .before .args in
-    let r = rowAt (a .above .now) (a .here .now) (a .next .now) (a .on .now) (a .at) in
+    let r = rowWith (a .above .now) (a .here .now) (a .next .now) (a .on .now) (a .at) in
     let w =
     strip-is (marksIn (a .sight .marks)) (a .cells .now) (a .sight .width) r (a .lines .now) (a .longest .now) (a .cx .now) (a .xs .now) (a .ncols) (l .j) _ (at-spot-at .spot-at .result) (l .seen) (l .over) _ (l .inv .1) (l .inv .2)
     (at-spot-at .spot-at .ensures) (c .before .before .before .column-end .ensures) (c .before .block-same .ensures)

@@ -1,10 +1,10 @@
 -- No node has no size.
 use borrow.Author.Tests.{eq-eqb, ne-eqb}
 use Rattle.rules.specs.Base.{pick}
 use Rattle.row_strips.specs.Strip.{sizeOf}
 use borrow.Author.Needs.{needs}
-use Rattle.picture_bands.proofs.across.size_of.Statement.{statement}
-use Rattle.picture_bands.proofs.across.size_of.Tie as tie
+use Rattle.row_strips.proofs.column.size_of.Statement.{statement}
+use Rattle.row_strips.proofs.column.size_of.Tie as tie
 
 returns : tie.Need-returns
 unfolding sizeOf pick
