@@ -11,7 +11,7 @@ use borrow.Author.Tests.{ltb-false}
 use Rattle.rules.specs.Drawing as D
 use Rattle.rules.specs.Base.{pick, any, concat, each}
 use Rattle.rules.specs.Plan.{Node}
-use Rattle.rules.specs.Levels.{Cell, view, inRow}
+use Rattle.rules.specs.Levels.{view, inRow}
 use Rattle.rules.specs.Strokes.{Stroke, across, down, write, mark, over}
 use Rattle.rules.specs.Drawing.{Marks, picture}
 use Rattle.rules.proofs.Tests.{neither}

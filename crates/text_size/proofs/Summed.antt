@@ -1,5 +1,5 @@
 -- The bands, one after another: each one's bytes are added, and with those of the rows above them they are the text's length.
-use mathlib.Core.Path.{_≡_, refl, ap, sym, _∙_}
+use mathlib.Core.Path.{_≡_, refl, sym, _∙_}
 use mathlib.Core.List.{List}
 use Prim.Native.Nat.{ℕ, suc, zero, _+_, _*_, _-_, _≤_, _<_}
 use native.Mathlib.Omega.{arith}
@@ -13,7 +13,7 @@ use Rattle.rules.specs.Lines.{digits}
 use Rattle.rules.specs.Plan.{Node}
 use Rattle.rules.specs.Levels.{view}
 use Rattle.rules.specs.Measures.{canvasWidth, canvasHeight}
-use Rattle.rules.specs.Drawing.{Marks, picture, textOf, text}
+use Rattle.rules.specs.Drawing.{Marks, picture, text}
 use Rattle.rules.specs.Look.{lenOf, marksIn}
 use Rattle.rules.proofs.Text.{text-bound}
 use Rattle.levels.specs.Shown.{planShown}

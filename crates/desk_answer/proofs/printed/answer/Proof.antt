@@ -5,8 +5,6 @@ use native.Mathlib.Omega.{arith}
 use lib.ListN.{length}
 use Rattle.desk_page.specs.Pages.{onErr}
 use Rattle.desk_page.proofs.Pages.{put-page}
-use Rattle.desk_trouble.specs.Troubles.{troubleWords}
-use Rattle.desk_answer.specs.Printed.{aboutIn, Prints}
 use Rattle.desk_answer.proofs.Said.{about-short}
 use borrow.Author.Needs.{needs}
 use Rattle.desk_answer.proofs.printed.answer.Statement.{statement}

@@ -1,7 +1,6 @@
 -- Past the table's end there is no depth: it has at most 257 nodes.
 use mathlib.Core.Path.{sym}
 use Prim.Native.Nat.{_*_}
-use native.Mathlib.Omega.{arith}
 use lib.ListN.{List·getD-eq-default}
 use Rattle.rules.specs.Plan.{depthIn}
 use borrow.Author.Needs.{needs}

@@ -1,6 +1,6 @@
 -- By the number.
 use native.Mathlib.Omega.{arith}
-use borrow.Author.Tests.{eq-eqb, ne-eqb}
+use borrow.Author.Tests.{ne-eqb}
 use Rattle.rules.specs.Base.{pick}
 use Rattle.desk_plan.specs.Ends.{readBy}
 use Rattle.desk_plan.proofs.ends.read_by.Statement.{statement}

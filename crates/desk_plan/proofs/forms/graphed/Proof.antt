@@ -1,6 +1,5 @@
 -- Five bytes at least, and the first five are the word.
 use mathlib.Core.Path.{sym, _∙_}
-use native.Mathlib.Omega.{arith}
 use borrow.Author.Tests.{lt-leb, le-leb}
 use lib.ListN.{length}
 use lib.Seq.{length-take-le}
