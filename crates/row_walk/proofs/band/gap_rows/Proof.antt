@@ -40,9 +40,8 @@ returns c =
 
 returns-2 : tie.Need-returns-2
 returns-2 c =
-    let t = c in
-    let s = t .before .before .before .before .before .before .before in
-    (gap-none (s .pre .0 .band) (omega (arith, t .if1 .left)), none-shown (s .pre .0 .band) (omega (arith, t .if1 .left)) (s .pre .1 .1 .1))
+    let s = c .before .before .before .before .before .before .before in
+    (gap-none (s .pre .0 .band) (omega (arith, c .if1 .left)), none-shown (s .pre .0 .band) (omega (arith, c .if1 .left)) (s .pre .1 .1 .1))
 
 pub gap-rows-spec : {M : Type 1} → statement M
 gap-rows-spec =

@@ -34,10 +34,9 @@ loop-holds c =
 
 add-row-cells : tie.Need-add-row-cells Inv-loop μ-loop
 add-row-cells c =
-    let t = c in
-    let at-wide = t .before .before .before .before .before in
+    let at-wide = c .before .before .before .before .before in
     let s = at-wide .before .before .before .before .before .before in
-    record { fits = omega (arith, t .if1 .taken, made (s .pre .0 .ready .known) .rows-few) }
+    record { fits = omega (arith, c .if1 .taken, made (s .pre .0 .ready .known) .rows-few) }
 
 row-cells-requires-2 : tie.Need-row-cells-requires-2 Inv-loop μ-loop
 row-cells-requires-2 c κs =
@@ -96,8 +95,7 @@ loop-less c =
 
 loop-again : tie.Need-loop-again Inv-loop μ-loop
 loop-again c =
-    let f = c in
-    let o = f .before .before .before .before .before .before in
+    let o = c .before .before .before .before .before .before in
     let x = o .before .before .before .before .before in
     let k = x .before in
     let t = k .before .before in
@@ -110,7 +108,7 @@ loop-again c =
     let y = row-end q (l .loop .i) less in
     let h = o .one-band .kept in (
       l .loop .inv .0,
-      one-more q (s .args .t .sheet .store) (s .args .out .now) (s .args .t .from) (l .loop .inv .1) less (h .0) (h .1 .1 .1 .1 .1 .1 .1 .1 .1 .1 .1 .0) (rw (l .loop .inv .0) at (f .first-cell .ensures)) (k .row-cells2 .ensures)
+      one-more q (s .args .t .sheet .store) (s .args .out .now) (s .args .t .from) (l .loop .inv .1) less (h .0) (h .1 .1 .1 .1 .1 .1 .1 .1 .1 .1 .1 .0) (rw (l .loop .inv .0) at (c .first-cell .ensures)) (k .row-cells2 .ensures)
           (rw (row-top q (l .loop .i) less, y) at (e .0)) (rw y at (e .1)),
     )
 

@@ -14,11 +14,10 @@ needed-requires c κs =
 
 returns : tie.Need-returns
 returns c =
-    let t = c in
-    let x = t .before .before in
+    let x = c .before .before in
     let s = x .before .before .before .before .before .before in
     let e = s .pre .1 .0 .2 in
-    (rw e at (x .needed .ensures), (refl, λ l. absurd (omega (arith, e, t .if1 .taken))))
+    (rw e at (x .needed .ensures), (refl, λ l. absurd (omega (arith, e, c .if1 .taken))))
 
 sheet-of-requires : tie.Need-sheet-of-requires
 sheet-of-requires c κs = search needs
