@@ -1,8 +1,8 @@
 -- Each of the five numbers is the one that is read off the drawing.
-use Rattle.girthladder.specs.Five.{drawingFive}
+use Rattle.five.specs.Five.{drawingFive}
 use borrow.Author.Needs.{needs}
-use Rattle.girthladder.proofs.drawing_five.Statement.{statement}
-use Rattle.girthladder.proofs.drawing_five.Tie as tie
+use Rattle.five.proofs.drawing_five.Statement.{statement}
+use Rattle.five.proofs.drawing_five.Tie as tie
 
 number-requires : tie.Need-number-requires
 number-requires c κs = search needs

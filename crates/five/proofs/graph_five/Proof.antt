@@ -1,8 +1,8 @@
 -- The first two numbers are the answer's own; the other three are 0.
-use Rattle.girthladder.specs.Five.{graphFive}
+use Rattle.five.specs.Five.{graphFive}
 use borrow.Author.Needs.{needs}
-use Rattle.girthladder.proofs.graph_five.Statement.{statement}
-use Rattle.girthladder.proofs.graph_five.Tie as tie
+use Rattle.five.proofs.graph_five.Statement.{statement}
+use Rattle.five.proofs.graph_five.Tie as tie
 
 number-requires : tie.Need-number-requires
 number-requires c κs = search needs

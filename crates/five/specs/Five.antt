@@ -1,10 +1,7 @@
 -- The five numbers of an answer, as they lie in the lent memory: number, second number, width, height, untitled nodes.
-use mathlib.Core.Path.{_≡_}
 use mathlib.Core.List.{List, [], _∷_}
 use Prim.Native.Nat.{ℕ}
-use Rattle.rules.specs.Look.{Look}
 use Rattle.rules.specs.Numbers.{number, second, readerNumber, readerSecond}
-use Rattle.rules.specs.Reader.{Reads}
 use Rattle.rules.specs.declared.Answer.{Answer}
 use Rattle.rules.specs.declared.Drawing.{Drawing}
 use Rattle.rules.specs.declared.Reading.{Reading}
@@ -20,9 +17,3 @@ graphFive a = number a ∷ second a ∷ 0 ∷ 0 ∷ 0 ∷ []
 -- of a reading, which has none of the three either
 unfoldable pub readingFive : Reading → List ℕ
 readingFive r = readerNumber r ∷ readerSecond r ∷ 0 ∷ 0 ∷ 0 ∷ []
-
--- the whole promise of the reader in a look, its reading told by the five numbers
-pub record ReadFive (look : Look) (P canvas table titles canvas′ table′ titles′ answer : List ℕ) : Type 0 where
-  pub reading : Reading
-  pub reads : Reads look P canvas table titles reading canvas′ table′ titles′
-  pub answered : answer ≡ readingFive reading

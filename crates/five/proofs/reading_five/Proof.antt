@@ -1,8 +1,8 @@
 -- The first two numbers are the reading's own; the other three are 0.
-use Rattle.girthladder.specs.Five.{readingFive}
+use Rattle.five.specs.Five.{readingFive}
 use borrow.Author.Needs.{needs}
-use Rattle.girthladder.proofs.reading_five.Statement.{statement}
-use Rattle.girthladder.proofs.reading_five.Tie as tie
+use Rattle.five.proofs.reading_five.Statement.{statement}
+use Rattle.five.proofs.reading_five.Tie as tie
 
 reading-number-requires : tie.Need-reading-number-requires
 reading-number-requires c κs = search needs
