@@ -1,8 +1,8 @@
 -- The text row by row: each row lies in the cells, what is written of the text never takes more room than all of it, and the whole fits a usize.
 use mathlib.Core.Path.{_≡_}
 use mathlib.Core.List.{List, _++_}
-use Prim.Native.Nat.{ℕ, suc, _+_, _-_, _*_, _≤_, _<_}
-use native.Mathlib.Nat.{suc-mul, add-sub-cancel-left, mul-comm, mul-le-mul-right, mul-add, mul-one, mul-left-comm}
+use Prim.Native.Nat.{ℕ, _+_, _-_, _*_, _≤_, _<_}
+use native.Mathlib.Nat.{add-sub-cancel-left, mul-comm, mul-add, mul-one, mul-left-comm}
 use native.Mathlib.Omega.{arith}
 use lib.ListN.{length, getD, take, drop}
 use Rattle.rules.specs.Drawing.{rowText, textOf}

@@ -1,10 +1,9 @@
 -- What is asked of a plan, word by word: the page that was laid is the one that the command line asks for, since its options are what they mean.
 use mathlib.Core.Path.{_≡_, refl, sym, ap, _∙_}
 use mathlib.Core.List.{List, []}
-use mathlib.Core.Bool.{Bool, true, false, not}
+use mathlib.Core.Bool.{Bool, false, not}
 use Prim.Native.Nat.{ℕ}
 use native.Mathlib.Omega.{arith}
-use lib.ListN.{length}
 use lib.Seq.{slice}
 use Rattle.rules.specs.Base.{pick}
 use Rattle.rules.specs.Look.{lookOf}

@@ -4,12 +4,12 @@ use mathlib.Core.List.{List, _++_}
 use mathlib.Core.Bool.{Bool, true, false, false≢true}
 use Prim.Native.Nat.{ℕ, _≤_}
 use native.Mathlib.Omega.{arith}
-use lib.ListN.{length, take, drop, length-append}
-use lib.Seq.{take-append-seam}
+use lib.ListN.{length, take}
 use Rattle.rules.specs.Base.{laid}
 use Rattle.rules.specs.Plan.{Node}
 use Rattle.rules.specs.Look.{Look}
 use Rattle.rules.specs.Reader.{tableOf, titlesOf, Draws}
+use Rattle.rules.proofs.Lists.{laid-begins, laid-long}
 use Rattle.desk_plan.specs.Loads.{Holds, Refuses, Loads}
 use Rattle.desk_plan.specs.declared.Loaded.{Loaded}
 use Rattle.desk_read.specs.Pictured.{Unread, Pictured}
@@ -29,14 +29,6 @@ last (Loaded.Refused n m) = m
 is-plan : Loaded → Bool
 is-plan (Loaded.Plan e s) = true
 is-plan (Loaded.Refused n m) = false
-
-laid-begins : (t O : List ℕ) → take (length t) (laid t O) ≡ t
-unfolding laid
-laid-begins t O = take-append-seam t (drop (length t) O)
-
-laid-long : (t O : List ℕ) → length t ≤ length (laid t O)
-unfolding laid
-laid-long t O = omega (arith, length-append t (drop (length t) O))
 
 -- e entries and s bytes, of which H holds, begin the lent memories
 pub record Begins (H : List ℕ → List ℕ → Type 0) (e s : ℕ) (table table′ titles′ : List ℕ) : Type 0 where

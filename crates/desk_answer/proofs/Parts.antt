@@ -1,5 +1,5 @@
 -- A part whose ends are held to the list's end is the same part.
-use mathlib.Core.Path.{_≡_, refl, sym, ap, _∙_}
+use mathlib.Core.Path.{_≡_, sym, ap, _∙_}
 use mathlib.Core.List.{List, []}
 use Prim.Native.Nat.{ℕ, _-_, _≤_, min}
 use native.Mathlib.Decide.{decLe}

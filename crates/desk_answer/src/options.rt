@@ -1,6 +1,5 @@
 // What the options mean.
 ghost use mathlib.Core.Path.{_≡_};
-ghost use Prim.Native.Nat.{min};
 ghost use lib.Seq.{slice};
 ghost use Rattle.desk_line.specs.Said.{partOf};
 ghost use Rattle.desk_answer.specs.Options.{measureIn, profileIn};
@@ -32,22 +31,12 @@ pub fn profile_of(s: Switches) -> Profile
     Profile::Boxes
 }
 
-// The smaller of two numbers.
-fn least(a: usize, b: usize) -> usize
-    ensures { λ r. ⌜ r ≡ min a b ⌝ }
-{
-    if a < b {
-        return a;
-    }
-    b
-}
-
 // The argument that stands there.
 pub fn part<'a>(args: &'a [u8], p: Part) -> &'a [u8]
     ensures { λ r. ⌜ now r ≡ slice (p .start) (p .end) (now (args .entry)) ⌝ }
 {
-    let end = least(p.end, args.len());
-    let start = least(p.start, end);
+    let end = text::shorter(p.end, args.len());
+    let start = text::shorter(p.start, end);
     &args[start..end]
 }
 

@@ -12,7 +12,7 @@ use Rattle.rules.specs.Reader.{tableOf, titlesOf, Draws}
 use Rattle.levels.proofs.Tables.{plan-table}
 use Rattle.desk_plan.specs.declared.Loaded.{Loaded}
 use Rattle.desk_read.specs.Pictured.{Unread, Pictured}
-use Rattle.desk_check.specs.Placed.{Placed}
+use Rattle.desk_compare.specs.Placed.{Placed}
 use Rattle.desk_check.proofs.Within.{read-placed}
 
 -- the first n of what t begins

@@ -21,7 +21,7 @@ use Rattle.desk_page.specs.Lays.{LaidAs, Lays}
 use Rattle.desk_page.specs.declared.Shown.{Shown}
 use Rattle.desk_draw.proofs.Laid.{draw-written}
 use Rattle.desk_check.specs.Checked.{Checks}
-use Rattle.desk_check.specs.Placed.{Says}
+use Rattle.desk_check.specs.Says.{Says}
 
 -- what the drawing answered, by what its two tests say: n is its second number, b whether it is done
 module _ (look : Look) (s : Standin) (T B : List ℕ) (cells : ℕ) (old : List ℕ) {r : Drawing} (e : r ≡ drawing look s T B cells (length old)) where

@@ -21,7 +21,7 @@ use Rattle.levels.proofs.Refused.{all-showable, plan-all}
 use Rattle.rules.proofs.Text.{each-room}
 use Rattle.levels.proofs.Tables.{length-table, count-table, start-table, size-table}
 use Rattle.delivery.proofs.Titles.{titles-all}
-use Rattle.desk_check.specs.Placed.{Placed}
+use Rattle.desk_compare.specs.Placed.{Placed}
 
 -- of a plan that is drawn
 pub drawn-placed : (m : Measure) (f : Profile) (given : Bool) (S T B : List ℕ) (cells room : ℕ)

@@ -2,12 +2,9 @@
 -- `cells`, `entries`, `bytes` and `room` are the lengths of the lent canvas, table, title room and output.
 use mathlib.Core.Path.{_≡_}
 use mathlib.Core.List.{List}
-use mathlib.Core.Bool.{Bool, true, false, not, _&&_}
-use Prim.Native.Nat.{ℕ, min}
-use lib.Dec.{eqb}
-use lib.ListN.{length}
-use Rattle.rules.specs.Base.{same, first}
-use Rattle.rules.specs.Plan.{Node, nodeAt, depthIn}
+use mathlib.Core.Bool.{true, false}
+use Prim.Native.Nat.{ℕ}
+use Rattle.rules.specs.Plan.{Node, depthIn}
 use Rattle.rules.specs.Standin.{Standin}
 use Rattle.rules.specs.Numbers.{number, second}
 use Rattle.rules.specs.Drawing.{text}
@@ -18,14 +15,7 @@ use Rattle.desk_say.specs.Refusals.{refusal}
 use Rattle.desk_tell.specs.Words.{sameWords, differWords, undrawnWords}
 use Rattle.desk_page.specs.Pages.{Page, onOut, onErr}
 use Rattle.desk_read.specs.Pictured.{Unread}
-
--- node k of both is the same
-unfoldable pub sameNode : List Node → List Node → ℕ → Bool
-sameNode p q k = eqb (nodeAt p k .depth) (nodeAt q k .depth) && same (nodeAt p k .title) (nodeAt q k .title)
-
--- the first node that is not; if all are that both have, the first that only one has
-unfoldable pub firstOther : List Node → List Node → ℕ
-firstOther p q = first (λ k. not (sameNode p q k)) (min (length p) (length q))
+use Rattle.desk_compare.specs.Compared.{firstOther}
 
 module _ (look : Look) (s : Standin) (T B P : List ℕ) (cells entries bytes room : ℕ) where
   -- the plan's drawing

@@ -1,5 +1,4 @@
 // Whether a sheet is the drawing of a plan, and if not, where it first differs.
-mod compare;
 mod sheet;
 
 pub use sheet::check_page;

@@ -9,9 +9,10 @@ ghost use Rattle.levels.specs.Shown.{planShown};
 ghost use Rattle.desk_tell.specs.Words.{differWords, undrawnWords};
 ghost use Rattle.desk_page.specs.Pages.{Page};
 ghost use Rattle.desk_page.specs.Lays.{LaidAs, Lays};
-ghost use Rattle.desk_check.specs.Checked.{firstOther, Checks};
-ghost use Rattle.desk_check.specs.Placed.{Placed, Says};
-use crate::compare::first_other;
+ghost use Rattle.desk_compare.specs.Compared.{firstOther};
+ghost use Rattle.desk_compare.specs.Placed.{Placed};
+ghost use Rattle.desk_check.specs.Checked.{Checks};
+ghost use Rattle.desk_check.specs.Says.{Says};
 use desk_page::Shown;
 use desk_page::put_out;
 use desk_plan::Loaded;
@@ -31,7 +32,7 @@ fn tell_other<'a>(
     requires { ⌜ Placed (now table) (now titles) × Placed (now other) (now words) × (500 ≤ length (now out)) ⌝ }
     ensures { λ r. ⌜ LaidAs (now (out .exit)) r false (differWords (firstOther (planShown given (now (standin .entry)) (now (table .entry)) (now (titles .entry))) (planOf (now (other .entry)) (now (words .entry))))) ⌝ }
 {
-    let node = first_other(table, titles, given, standin, other, words);
+    let node = desk_compare::first_other(table, titles, given, standin, other, words);
     put_out(desk_tell::differ_words(out, node))
 }
 

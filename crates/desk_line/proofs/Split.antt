@@ -1,6 +1,6 @@
 -- Arguments are split at each 0: the first is what stands before the first 0, and the others are those of what follows it.
 use mathlib.Core.Path.{_≡_, refl, ap, sym, _∙_}
-use mathlib.Core.List.{List, [], _∷_, _++_}
+use mathlib.Core.List.{List, [], _∷_}
 use mathlib.Core.Bool.{Bool, true, false}
 use Prim.Native.Nat.{ℕ, suc, zero, _+_, _-_, _<_, _≤_, min}
 use native.Mathlib.Numerals.{add-one}

@@ -1,32 +1,24 @@
 -- What was put at the output's start is a page; and so is what was written there by an answer that is done.
-use mathlib.Core.Path.{_≡_, refl, sym, ap, _∙_}
+use mathlib.Core.Path.{_≡_, ap, _∙_}
 use mathlib.Core.List.{List, _++_}
 use mathlib.Core.Bool.{Bool, true, false}
 use Prim.Native.Nat.{ℕ, _+_, _≤_}
 use native.Mathlib.Nat.{zero-add}
 use native.Mathlib.Omega.{arith}
-use lib.ListN.{length, take, drop, length-append}
-use lib.Seq.{take-append-seam}
+use lib.ListN.{length, take}
 use borrow.Author.Tests.{eqb-true}
 use Rattle.rules.specs.Base.{pick, laid}
 use Rattle.rules.specs.Plan.{depthIn}
 use Rattle.rules.specs.Numbers.{number, second}
 use Rattle.rules.specs.Answers.{done}
 use Rattle.rules.specs.declared.Answer.{Answer}
+use Rattle.rules.proofs.Lists.{laid-begins, laid-long}
 use Rattle.put.specs.Put.{Put}
 use Rattle.put.proofs.Puts.{put-laid, put-length}
 use Rattle.desk_say.specs.Refusals.{refusal}
 use Rattle.desk_page.specs.Pages.{pageOf}
 use Rattle.desk_page.specs.Lays.{LaidAs, Lays, Written}
 use Rattle.desk_page.specs.declared.Shown.{Shown}
-
-laid-begins : (t O : List ℕ) → take (length t) (laid t O) ≡ t
-unfolding laid
-laid-begins t O = take-append-seam t (drop (length t) O)
-
-laid-long : (t O : List ℕ) → length t ≤ length (laid t O)
-unfolding laid
-laid-long t O = omega (arith, length-append t (drop (length t) O))
 
 pub shown-equal : (b : Bool) (n m : ℕ) → n ≡ m → _≡_ {A = Shown} (record { refused = b; size = n }) (record { refused = b; size = m })
 shown-equal b n m e = cc

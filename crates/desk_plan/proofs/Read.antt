@@ -8,12 +8,12 @@ use native.Mathlib.Omega.{arith}
 use borrow.Author.Tests.{ltb-false, eqb-true, eqb-false, eq-eqb}
 use lib.Dec.{ltb, eqb}
 use lib.ListN.{length}
-use Rattle.rules.specs.Base.{pick, first, laid}
+use Rattle.rules.specs.Base.{pick, first}
 use Rattle.rules.specs.Utf8.{valid}
 use Rattle.rules.specs.Plan.{Node}
 use Rattle.rules.specs.File.{endsInTree}
 use Rattle.rules.specs.Numbers.{readerNumber, readerSecond}
-use Rattle.rules.specs.Reader.{Found, plan, nothing, tableOf, titlesOf, delivered, writtenBy}
+use Rattle.rules.specs.Reader.{Found, plan, nothing, tableOf, titlesOf, delivered}
 use Rattle.rules.specs.GraphReader.{RightGraph, graphDelivered, graphReading, ReadsGraph}
 use Rattle.rules.specs.declared.Reading.{Reading}
 use Rattle.json.specs.Text.{Means}
@@ -24,7 +24,6 @@ use Rattle.delivery.proofs.Answers.{unwritten}
 use Rattle.graph_plan.proofs.Back.{limits}
 use Rattle.desk_plan.specs.Loads.{graphed, Holds, Refuses, Loads}
 use Rattle.desk_plan.specs.Ends.{readBy, Few}
-use Rattle.desk_plan.specs.declared.Loaded.{Loaded}
 use Rattle.desk_plan.proofs.Delivered.{Begun, begun-plan, begun-few, refused-by, Done, is-done}
 
 -- a plan that began the lent memories is loaded

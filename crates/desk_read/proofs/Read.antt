@@ -5,10 +5,10 @@ use mathlib.Core.List.{List}
 use mathlib.Core.Bool.{Bool, true, false, not, _&&_}
 use Prim.Native.Nat.{ℕ, _≤_}
 use native.Mathlib.Omega.{arith}
-use borrow.Author.Tests.{leb-true, eqb-true, eqb-false, ne-eqb}
+use borrow.Author.Tests.{leb-true, eqb-true, eqb-false}
 use lib.Dec.{leb, ltb, eqb}
 use lib.ListN.{length}
-use Rattle.rules.specs.Base.{pick, every, first, laid}
+use Rattle.rules.specs.Base.{pick, every, first}
 use Rattle.rules.specs.Utf8.{valid}
 use Rattle.rules.specs.Plan.{Node, mostCells}
 use Rattle.rules.specs.Look.{Look}
@@ -16,14 +16,14 @@ use Rattle.rules.specs.Levels.{view}
 use Rattle.rules.specs.Measures.{area}
 use Rattle.rules.specs.Numbers.{badDepth, readerNumber, readerSecond}
 use Rattle.rules.specs.Ordinary.{ordinaryTitle, ordinary}
-use Rattle.rules.specs.Reader.{Found, plan, nothing, tableOf, titlesOf, ended, pictureArea, delivered, reading, Draws, Right, Reads}
+use Rattle.rules.specs.Reader.{Found, plan, nothing, tableOf, titlesOf, ended, pictureArea, delivered, reading, Draws, Reads}
 use Rattle.rules.specs.declared.Reading.{Reading}
 use Rattle.rules.proofs.Tests.{both}
 use Rattle.levels.proofs.Tables.{length-table}
 use Rattle.delivery.proofs.Answers.{unwritten}
 use Rattle.desk_plan.specs.Ends.{readBy, Few}
 use Rattle.desk_plan.proofs.Delivered.{begun-plan, begun-few, Done, is-done, refused-by}
-use Rattle.desk_read.specs.Pictured.{Unread, unread, Pictured}
+use Rattle.desk_read.specs.Pictured.{unread, Pictured}
 
 -- a picture that is done is past all that comes before its plan is delivered
 picture-past : (P : List ℕ) (f : Found) (c e b : ℕ) → readerNumber (reading P f c e b) ≡ 0 → reading P f c e b ≡ delivered f e b

@@ -1,7 +1,7 @@
 -- Lists that are compared from the left: the same as far as i, they are the same if what follows is.
 use mathlib.Core.Path.{_≡_, refl}
 use mathlib.Core.List.{List, [], _∷_}
-use mathlib.Core.Bool.{Bool, true, false, _&&_}
+use mathlib.Core.Bool.{false, and-false}
 use Prim.Native.Nat.{ℕ, _+_, _<_}
 use native.Mathlib.Numerals.{add-one}
 use native.Mathlib.Omega.{arith}
@@ -17,11 +17,7 @@ unfolding same
 same-lengths [] [] h = absurd (h refl)
 same-lengths [] (y ∷ b) h = refl
 same-lengths (x ∷ a) [] h = refl
-same-lengths (x ∷ a) (y ∷ b) h = rw (same-lengths a b (λ e. h (omega arith))) (falls (eqb x y))
-  where
-    falls : (t : Bool) → (t && false) ≡ false
-    falls true = refl
-    falls false = refl
+same-lengths (x ∷ a) (y ∷ b) h = rw (same-lengths a b (λ e. h (omega arith))) (and-false (eqb x y))
 
 module _ (a b : List ℕ) (i : ℕ) (h : i < length a) (k : i < length b) where
   -- what differs at i is not the same

@@ -1,12 +1,12 @@
 -- Digits read from the left: what is read so far, and what follows.
-use mathlib.Core.Path.{_≡_, refl}
+use mathlib.Core.Path.{_≡_}
 use mathlib.Core.List.{List, [], _∷_}
-use mathlib.Core.Bool.{Bool, true, false, _&&_}
+use mathlib.Core.Bool.{Bool, true, false, _&&_, and-false}
 use Prim.Native.Nat.{ℕ, _+_, _*_, _-_, _<_, _≤_, _^_}
 use native.Mathlib.Numerals.{add-one}
 use native.Mathlib.Omega.{arith}
-use borrow.Author.Tests.{lt-ltb, le-ltb, le-leb, lt-leb, leb-true}
-use lib.Dec.{leb, ltb}
+use borrow.Author.Tests.{lt-ltb, le-ltb, le-leb, leb-true}
+use lib.Dec.{leb}
 use lib.ListN.{length, drop, getD}
 use lib.Seq.{drop-cons}
 use Rattle.rules.specs.Base.{every, pick}
@@ -32,20 +32,12 @@ every-next t a i h = rw (drop-cons a i 0 h, add-one i)
 -- no digit, no number
 pub no-number : (a : List ℕ) → every (span 0x30 0x39) a ≡ false → Number.NoNumber ≡ numberIn a
 unfolding numberIn pick
-no-number a e = rw (e, false-both (leb 1 (length a)))
-  where
-    false-both : (t : Bool) → (t && false) ≡ false
-    false-both true = refl
-    false-both false = refl
+no-number a e = rw (e, and-false (leb 1 (length a)))
 
 -- too large is no number
 pub too-large : (a : List ℕ) → 2 ^ 32 ≤ valueFrom 0 a → Number.NoNumber ≡ numberIn a
 unfolding numberIn pick
-too-large a h = rw (le-ltb (valueFrom 0 a) (2 ^ 32) h, false-both (leb 1 (length a) && every (span 0x30 0x39) a))
-  where
-    false-both : (t : Bool) → (t && false) ≡ false
-    false-both true = refl
-    false-both false = refl
+too-large a h = rw (le-ltb (valueFrom 0 a) (2 ^ 32) h, and-false (leb 1 (length a) && every (span 0x30 0x39) a))
 
 pub a-number : (a : List ℕ) (v : ℕ) → 0 < length a → every (span 0x30 0x39) a ≡ true → valueFrom 0 a ≡ v → v < 2 ^ 32 → Number.Is v ≡ numberIn a
 unfolding numberIn pick

@@ -8,19 +8,36 @@ use Rattle.desk_words.specs.declared.Word.{Word}
 use Rattle.desk_words.specs.declared.Opt.{Opt}
 use Rattle.desk_words.specs.declared.Taken.{Taken}
 
--- the word that an argument is
+-- the word that an argument is, if none of the first six
+unfoldable pub lastWord : List ℕ → Word
+lastWord a =
+    pick (same a (bytes "why")) Word.Why
+    (pick (same a (bytes "fits")) Word.Fits
+    (pick (same a (bytes "help")) Word.Help
+    Word.Unknown))
+
+-- if none of the first three
+unfoldable pub middleWord : List ℕ → Word
+middleWord a =
+    pick (same a (bytes "json")) Word.Json
+    (pick (same a (bytes "read")) Word.Read
+    (pick (same a (bytes "check")) Word.Check
+    (lastWord a)))
+
+-- the word that it is
 unfoldable pub wordIn : List ℕ → Word
 wordIn a =
     pick (same a (bytes "draw")) Word.Draw
     (pick (same a (bytes "sheets")) Word.Sheets
     (pick (same a (bytes "graph")) Word.Graph
-    (pick (same a (bytes "json")) Word.Json
-    (pick (same a (bytes "read")) Word.Read
-    (pick (same a (bytes "check")) Word.Check
-    (pick (same a (bytes "why")) Word.Why
-    (pick (same a (bytes "fits")) Word.Fits
-    (pick (same a (bytes "help")) Word.Help
-    Word.Unknown))))))))
+    (middleWord a)))
+
+-- the option that it is, if none of the first three
+unfoldable pub lastOption : List ℕ → Opt
+lastOption a =
+    pick (same a (bytes "--rows")) Opt.Rows
+    (pick (same a (bytes "--crate")) Opt.Crate
+    Opt.Unknown)
 
 -- the option that it is
 unfoldable pub optionIn : List ℕ → Opt
@@ -28,9 +45,7 @@ optionIn a =
     pick (same a (bytes "--fitted")) Opt.Fitted
     (pick (same a (bytes "--plain")) Opt.Plain
     (pick (same a (bytes "--stand-in")) Opt.StandIn
-    (pick (same a (bytes "--rows")) Opt.Rows
-    (pick (same a (bytes "--crate")) Opt.Crate
-    Opt.Unknown))))
+    (lastOption a)))
 
 abbrev pub knownWord : Word → Bool
 knownWord Word.Draw = true

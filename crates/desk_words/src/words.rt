@@ -1,7 +1,7 @@
 // The words and the options, letter by letter, and what each word takes.
 ghost use mathlib.Core.Path.{_≡_};
 ghost use Rattle.rules.specs.Base.{same};
-ghost use Rattle.desk_words.specs.Words.{wordIn, optionIn, knownWord, takenBy, takesOption};
+ghost use Rattle.desk_words.specs.Words.{wordIn, middleWord, lastWord, optionIn, lastOption, knownWord, takenBy, takesOption};
 use crate::Opt;
 use crate::Taken;
 use crate::Word;
@@ -36,6 +36,13 @@ pub fn word_in(a: &[u8]) -> Word
     if alike(a, b"graph") {
         return Word::Graph;
     }
+    middle_word(a)
+}
+
+// The word that it is, if none of the first three.
+fn middle_word(a: &[u8]) -> Word
+    ensures { λ r. ⌜ r ≡ middleWord (now (a .entry)) ⌝ }
+{
     if alike(a, b"json") {
         return Word::Json;
     }
@@ -45,6 +52,13 @@ pub fn word_in(a: &[u8]) -> Word
     if alike(a, b"check") {
         return Word::Check;
     }
+    last_word(a)
+}
+
+// The word that it is, if none of the first six.
+fn last_word(a: &[u8]) -> Word
+    ensures { λ r. ⌜ r ≡ lastWord (now (a .entry)) ⌝ }
+{
     if alike(a, b"why") {
         return Word::Why;
     }
@@ -70,6 +84,13 @@ pub fn option_in(a: &[u8]) -> Opt
     if alike(a, b"--stand-in") {
         return Opt::StandIn;
     }
+    last_option(a)
+}
+
+// The option that it is, if none of the first three.
+fn last_option(a: &[u8]) -> Opt
+    ensures { λ r. ⌜ r ≡ lastOption (now (a .entry)) ⌝ }
+{
     if alike(a, b"--rows") {
         return Opt::Rows;
     }

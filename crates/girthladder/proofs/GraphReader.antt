@@ -3,7 +3,7 @@ use mathlib.Core.Path.{_≡_, ap, sym, _∙_}
 use mathlib.Core.List.{List}
 use Prim.Native.Nat.{ℕ}
 use Rattle.graph_read.proofs.Theorems.{one-outcome}
-use Rattle.girthladder.specs.Five.{readingFive}
+use Rattle.five.specs.Five.{readingFive}
 use Rattle.girthladder.specs.GraphReader.{ReadFencedFive}
 
 pub one-read-fenced : (G table titles table₁ table₂ titles₁ titles₂ five₁ five₂ : List ℕ)

@@ -7,7 +7,8 @@ use Rattle.rules.specs.declared.Measure.{Measure}
 use Rattle.rules.specs.declared.Profile.{Profile}
 use Rattle.marks.proofs.Ends.{lawful-in}
 use Rattle.marks.proofs.Reader.{one-outcome}
-use Rattle.girthladder.specs.Five.{readingFive, ReadFive}
+use Rattle.five.specs.Five.{readingFive}
+use Rattle.girthladder.specs.Reader.{ReadFive}
 
 -- in each measure and profile two outcomes of one call leave the same five numbers, canvas, table and titles
 pub one-answer : (m : Measure) (f : Profile) (P canvas table titles canvas₁ canvas₂ table₁ table₂ titles₁ titles₂ five₁ five₂ : List ℕ)

@@ -4,7 +4,7 @@ use mathlib.Core.List.{List}
 use Prim.Native.Nat.{ℕ}
 use Rattle.rules.specs.GraphReader.{ReadsGraph}
 use Rattle.rules.specs.declared.Reading.{Reading}
-use Rattle.girthladder.specs.Five.{readingFive}
+use Rattle.five.specs.Five.{readingFive}
 
 -- the whole promise of (viii), its reading told by the five numbers
 pub record ReadFencedFive (G table titles table′ titles′ answer : List ℕ) : Type 0 where

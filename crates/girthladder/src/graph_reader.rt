@@ -1,6 +1,5 @@
 // Reading a fenced graph, on lent memory.
 ghost use Rattle.girthladder.specs.GraphReader.{ReadFencedFive};
-use crate::reading_five;
 
 // Reads a fenced graph back: its plan into `table` and `titles`.
 #[no_mangle]
@@ -13,5 +12,5 @@ pub extern "C" fn girthladder_read_fenced(
     ensures { λ _. ⌜ ReadFencedFive (now (graph .entry)) (now (table .entry)) (now (titles .entry)) (now (table .exit)) (now (titles .exit)) (now (answer .exit)) ⌝ }
 {
     let r = graph_read::read_fenced(graph, table, titles);
-    *answer = reading_five(r);
+    *answer = five::reading_five(r);
 }

@@ -2,9 +2,8 @@
 ghost use mathlib.Core.Path.{_≡_};
 ghost use lib.ListN.{length};
 ghost use Rattle.json.specs.Write.{jsonAnswer, jsonAfter};
-ghost use Rattle.girthladder.specs.Five.{graphFive};
+ghost use Rattle.five.specs.Five.{graphFive};
 ghost use Rattle.girthladder.specs.Json.{ImportFive};
-use crate::graph_five;
 
 // Writes a plan as JSON to `out`.
 #[no_mangle]
@@ -18,7 +17,7 @@ pub extern "C" fn girthladder_write_json(
     ensures out_left { λ _. ⌜ now (out .exit) ≡ jsonAfter (now (table .entry)) (now (titles .entry)) (now (out .entry)) ⌝ }
 {
     let a = json_write::write_json(table, titles, out);
-    *answer = graph_five(a);
+    *answer = five::graph_five(a);
 }
 
 // Reads a JSON text: its plan into `table` and `titles`.

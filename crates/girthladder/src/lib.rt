@@ -12,7 +12,8 @@ ghost use Rattle.rules.specs.Standin.{none, standinOf};
 ghost use Rattle.rules.specs.Graph.{bare, fenced};
 ghost use Rattle.rules.specs.Answers.{drawing, canvasAfter, outAfter, graphAnswer, graphAfter};
 ghost use Rattle.rules.specs.Switches.{givenOf, lookIn};
-ghost use Rattle.girthladder.specs.Five.{drawingFive, graphFive, readingFive, ReadFive};
+ghost use Rattle.five.specs.Five.{drawingFive, graphFive};
+ghost use Rattle.girthladder.specs.Reader.{ReadFive};
 pub use graph_reader::girthladder_read_fenced;
 pub use json_text::girthladder_read_json;
 pub use json_text::girthladder_write_json;
@@ -20,58 +21,7 @@ pub use question::girthladder_fits;
 pub use question::girthladder_why;
 pub use row::girthladder_rows;
 pub use row::girthladder_rows_with;
-use rules::Answer;
-use rules::Drawing;
-use rules::Reading;
 pub use run_book::girthladder_sheets;
-
-// The same number.
-fn small(n: u32) -> u64
-    ensures { λ r. ⌜ r ≡ n ⌝ }
-{
-    n as u64
-}
-
-// The same number.
-fn same(n: usize) -> u64
-    ensures { λ r. ⌜ r ≡ n ⌝ }
-{
-    n as u64
-}
-
-// The five numbers of a drawing.
-pub(crate) fn drawing_five(d: Drawing) -> [u64; 5]
-    ensures { λ r. ⌜ r ≡ drawingFive d ⌝ }
-{
-    let a = d.answer;
-    [
-        small(rules::number(a)),
-        same(rules::second(a)),
-        same(d.width),
-        same(d.height),
-        same(d.untitled),
-    ]
-}
-
-// The five numbers of a graph.
-fn graph_five(a: Answer) -> [u64; 5]
-    ensures { λ r. ⌜ r ≡ graphFive a ⌝ }
-{
-    [small(rules::number(a)), same(rules::second(a)), 0, 0, 0]
-}
-
-// The five numbers of a reading.
-pub(crate) fn reading_five(r: Reading) -> [u64; 5]
-    ensures { λ a. ⌜ a ≡ readingFive r ⌝ }
-{
-    [
-        small(rules::reading_number(r)),
-        same(rules::reading_second(r)),
-        0,
-        0,
-        0,
-    ]
-}
 
 // Draws a plan on the lent canvas and writes its text to `out`.
 #[no_mangle]
@@ -87,7 +37,7 @@ pub extern "C" fn girthladder_text(
     ensures out_left { λ _. ⌜ now (out .exit) ≡ outAfter base none (now (table .entry)) (now (titles .entry)) (length (now (canvas .entry))) (now (out .entry)) ⌝ }
 {
     let d = tree_format::tree_fmt_text(table, titles, canvas, out);
-    *answer = drawing_five(d);
+    *answer = five::drawing_five(d);
 }
 
 // The same in the look that these switches say.
@@ -107,7 +57,7 @@ pub extern "C" fn girthladder_text_as(
     let measure = rules::measure_of(look);
     let profile = rules::profile_of(look);
     let d = tree_format::draw(table, titles, false, titles, measure, profile, canvas, out);
-    *answer = drawing_five(d);
+    *answer = five::drawing_five(d);
 }
 
 // The same with a stand-in for empty titles, if one is given.
@@ -139,7 +89,7 @@ pub extern "C" fn girthladder_text_with<'a>(
         canvas,
         out,
     );
-    *answer = drawing_five(d);
+    *answer = five::drawing_five(d);
 }
 
 // Writes the crate's graph to `out`.
@@ -154,7 +104,7 @@ pub extern "C" fn girthladder_dot(
     ensures out_left { λ _. ⌜ now (out .exit) ≡ graphAfter bare none (now (table .entry)) (now (titles .entry)) (now (out .entry)) ⌝ }
 {
     let a = tree_format::tree_fmt_dot(table, titles, out);
-    *answer = graph_five(a);
+    *answer = five::graph_five(a);
 }
 
 // The same with a stand-in for empty titles, if one is given.
@@ -172,7 +122,7 @@ pub extern "C" fn girthladder_dot_with<'a>(
 {
     let stands = rules::given_of(given);
     let a = tree_format::dot(table, titles, stands, standin, false, out);
-    *answer = graph_five(a);
+    *answer = five::graph_five(a);
 }
 
 // Writes the fenced graph to `out`.
@@ -187,7 +137,7 @@ pub extern "C" fn girthladder_fenced(
     ensures out_left { λ _. ⌜ now (out .exit) ≡ graphAfter fenced none (now (table .entry)) (now (titles .entry)) (now (out .entry)) ⌝ }
 {
     let a = tree_format::tree_fmt_fenced(table, titles, out);
-    *answer = graph_five(a);
+    *answer = five::graph_five(a);
 }
 
 // The same with a stand-in for empty titles, if one is given.
@@ -205,7 +155,7 @@ pub extern "C" fn girthladder_fenced_with<'a>(
 {
     let stands = rules::given_of(given);
     let a = tree_format::dot(table, titles, stands, standin, true, out);
-    *answer = graph_five(a);
+    *answer = five::graph_five(a);
 }
 
 // Reads a picture back: its plan into `table` and `titles`.
@@ -221,7 +171,7 @@ pub extern "C" fn girthladder_read(
         (now (canvas .exit)) (now (table .exit)) (now (titles .exit)) (now (answer .exit)) ⌝ }
 {
     let r = picture::read(picture, canvas, table, titles);
-    *answer = reading_five(r);
+    *answer = five::reading_five(r);
 }
 
 // The same of a picture in the look that these switches say.
@@ -240,5 +190,5 @@ pub extern "C" fn girthladder_read_as(
     let measure = rules::measure_of(look);
     let profile = rules::profile_of(look);
     let r = picture::read_as(picture, measure, profile, canvas, table, titles);
-    *answer = reading_five(r);
+    *answer = five::reading_five(r);
 }

@@ -5,8 +5,7 @@ ghost use Rattle.rules.specs.Look.{base};
 ghost use Rattle.rules.specs.Standin.{none, standinOf};
 ghost use Rattle.rules.specs.Answers.{rowDrawing, rowAfter, rowOutAfter};
 ghost use Rattle.rules.specs.Switches.{givenOf, lookIn};
-ghost use Rattle.girthladder.specs.Five.{drawingFive};
-use crate::drawing_five;
+ghost use Rattle.five.specs.Five.{drawingFive};
 
 // Draws a plan row by row in the lent row of cells, which must hold the width, and writes its text to `out`.
 #[no_mangle]
@@ -22,7 +21,7 @@ pub extern "C" fn girthladder_rows(
     ensures out_left { λ _. ⌜ now (out .exit) ≡ rowOutAfter base none (now (table .entry)) (now (titles .entry)) (length (now (row .entry))) (now (out .entry)) ⌝ }
 {
     let d = rows::tree_fmt_rows(table, titles, row, out);
-    *answer = drawing_five(d);
+    *answer = five::drawing_five(d);
 }
 
 // The same in the look that these switches say, with a stand-in for empty titles, if one is given.
@@ -45,5 +44,5 @@ pub extern "C" fn girthladder_rows_with<'a>(
     let profile = rules::profile_of(look);
     let stands = rules::given_of(given);
     let d = rows::draw_rows(table, titles, stands, standin, measure, profile, row, out);
-    *answer = drawing_five(d);
+    *answer = five::drawing_five(d);
 }

@@ -4,8 +4,7 @@ ghost use lib.ListN.{length};
 ghost use Rattle.rules.specs.Standin.{standinOf};
 ghost use Rattle.rules.specs.Sheets.{sheetsDrawing, sheetsCanvasAfter, sheetsOutAfter};
 ghost use Rattle.rules.specs.Switches.{givenOf, lookIn};
-ghost use Rattle.girthladder.specs.Five.{drawingFive};
-use crate::drawing_five;
+ghost use Rattle.five.specs.Five.{drawingFive};
 use text::wide;
 
 // Draws a plan on the lent canvas, in the look that these switches say and with a stand-in if one is given, and writes its sheets of this
@@ -44,5 +43,5 @@ pub extern "C" fn girthladder_sheets<'a>(
         canvas,
         out,
     );
-    *answer = drawing_five(d);
+    *answer = five::drawing_five(d);
 }

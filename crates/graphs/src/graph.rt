@@ -13,7 +13,7 @@ ghost use Rattle.rules.specs.Answers.{done, inRoom, graphAnswer, graphAfter};
 ghost use Rattle.levels.specs.Shown.{planShown, Showable};
 ghost use Rattle.put.specs.Put.{Put};
 ghost use Rattle.graphs.specs.Forms.{formOf};
-ghost use Rattle.graphs.specs.Entries.{lead, spotIn, edgeIn, edgesIn, nodeIn, backward, rowEntries, allEntries, gap, Ready};
+ghost use Rattle.graphs.specs.Entries.{lead, spotIn, beginIn, edgeIn, edgesIn, nodeIn, backward, cellEntries, rowEntries, allEntries, closingAt, Ready};
 
 // Puts the name of node k.
 fn name_of(
@@ -31,6 +31,23 @@ fn name_of(
     label::name(out, at, table[3 * k], column[k], fenced)
 }
 
+// Puts what stands before an entry, and the name of node k, which an entry begins with.
+fn begin(
+    out: &mut [u8],
+    at: usize,
+    table: &[u32],
+    column: &[u32; 256],
+    k: usize,
+    fenced: bool,
+) -> usize
+    requires { ⌜ Ready (now table) (now column) ⌝ }
+    requires { ⌜ (k < count (now table)) × (at + length (beginIn (formOf fenced) (now table) k) < 2 ^ 64) ⌝ }
+    ensures { λ r. ⌜ Put (beginIn (formOf fenced) (now (table .entry)) k) at (now (out .entry)) (now (out .exit)) r ⌝ }
+{
+    let a = put::bytes(out, at, b"\n    ");
+    name_of(out, a, table, column, k, fenced)
+}
+
 // Puts the edge from node k to node m, with what stands before an entry.
 fn edge(
     out: &mut [u8],
@@ -45,10 +62,9 @@ fn edge(
     requires { ⌜ (k < count (now table)) × (m < count (now table)) × (at + length (edgeIn (formOf fenced) (now table) k m) < 2 ^ 64) ⌝ }
     ensures { λ r. ⌜ Put (edgeIn (formOf fenced) (now (table .entry)) k m) at (now (out .entry)) (now (out .exit)) r ⌝ }
 {
-    let a = put::bytes(out, at, b"\n    ");
-    let b = name_of(out, a, table, column, k, fenced);
-    let c = put::bytes(out, b, b" -- ");
-    name_of(out, c, table, column, m, fenced)
+    let a = begin(out, at, table, column, k, fenced);
+    let b = put::bytes(out, a, b" -- ");
+    name_of(out, b, table, column, m, fenced)
 }
 
 // Puts the edges of node k, last child first; its children lie before node `end`.
@@ -94,16 +110,31 @@ fn node<'a>(
     requires { ⌜ (k < count (now table)) × (at + length (nodeIn (formOf fenced) (planShown given (now standin) (now table) (now titles)) k) < 2 ^ 64) ⌝ }
     ensures { λ r. ⌜ Put (nodeIn (formOf fenced) (planShown given (now (standin .entry)) (now (table .entry)) (now (titles .entry))) k) at (now (out .entry)) (now (out .exit)) r ⌝ }
 {
-    let a = put::bytes(out, at, b"\n    ");
-    let b = name_of(out, a, table, column, k, fenced);
-    let c = put::bytes(out, b, b" [label=\"");
-    let d = label::shown(
-        out,
-        c,
-        levels::shown_title(table, k, titles, given, standin),
-        fenced,
-    );
-    put::bytes(out, d, b"\", ordering=\"out\"]")
+    let a = begin(out, at, table, column, k, fenced);
+    let title = levels::shown_title(table, k, titles, given, standin);
+    label::labelled(out, a, title, fenced)
+}
+
+// Puts the entries of node k, its own and its edges; its children lie before node `end`.
+fn cell<'a>(
+    out: &mut [u8],
+    at: usize,
+    table: &[u32],
+    titles: &'a [u8],
+    given: bool,
+    standin: &'a [u8],
+    column: &[u32; 256],
+    k: usize,
+    end: usize,
+    fenced: bool,
+) -> usize
+    requires { ⌜ Showable given (now standin) (now table) (now titles) × Ready (now table) (now column) × (k < end) × (end ≤ count (now table)) ⌝ }
+    requires { ⌜ at + length (cellEntries (formOf fenced) given (now table) (planShown given (now standin) (now table) (now titles)) k end) < 2 ^ 64 ⌝ }
+    ensures { λ r. ⌜ Put (cellEntries (formOf fenced) given (now (table .entry)) (planShown given (now (standin .entry)) (now (table .entry)) (now (titles .entry))) k end)
+        at (now (out .entry)) (now (out .exit)) r ⌝ }
+{
+    let a = node(out, at, table, titles, given, standin, column, k, fenced);
+    edges(out, a, table, given, column, k, end, fenced)
 }
 
 // Puts the entries of a row.
@@ -128,8 +159,18 @@ fn row<'a>(
     let mut k = levels::next_cell(table, given, nodes, 0, depth);
     while k < nodes {
         let end = levels::next_cell(table, given, nodes, k + 1, depth);
-        to = node(out, to, table, titles, given, standin, column, k, fenced);
-        to = edges(out, to, table, given, column, k, end, fenced);
+        to = cell(
+            out,
+            to,
+            table,
+            titles,
+            given,
+            standin,
+            column,
+            k,
+            end,
+            fenced,
+        );
         k = end;
     }
     to
@@ -173,15 +214,15 @@ fn entries<'a>(
     to
 }
 
-// Puts what stands for no entry.
-fn no_entry(out: &mut [u8], at: usize) -> usize
-    requires { ⌜ at + length (gap at) < 2 ^ 64 ⌝ }
-    ensures { λ r. ⌜ Put (gap at) at (now (out .entry)) (now (out .exit)) r ⌝ }
+// Puts what stands for no entry, and the last line.
+fn closing(out: &mut [u8], at: usize) -> usize
+    requires { ⌜ at + length (closingAt at) < 2 ^ 64 ⌝ }
+    ensures { λ r. ⌜ Put (closingAt at) at (now (out .entry)) (now (out .exit)) r ⌝ }
 {
     if at == 7 {
-        return put::bytes(out, at, b"\n    ");
+        return put::bytes(out, at, b"\n    \n}");
     }
-    at
+    put::bytes(out, at, b"\n}")
 }
 
 // Puts the whole graph, as far as there is room.
@@ -200,8 +241,7 @@ fn whole<'a>(
 {
     let a = put::bytes(out, 0, b"graph {");
     let b = entries(out, a, table, nodes, titles, given, standin, column, fenced);
-    let c = no_entry(out, b);
-    put::bytes(out, c, b"\n}")
+    closing(out, b)
 }
 
 // Counts the graph of an accepted table, and puts it where there is room for all of it.

@@ -4,7 +4,7 @@ ghost use lib.ListN.{length};
 ghost use Rattle.rules.specs.Base.{concat};
 ghost use Rattle.rules.specs.Graph.{escaped, name as nameOf};
 ghost use Rattle.put.specs.Put.{Put};
-ghost use Rattle.graphs.specs.Forms.{formOf, spot};
+ghost use Rattle.graphs.specs.Forms.{formOf, labelledIn, spot};
 
 // Puts b as it stands in a fenced label.
 pub fn escape(out: &mut [u8], at: usize, b: u8) -> usize
@@ -38,7 +38,7 @@ fn escapes(out: &mut [u8], at: usize, s: &[u8]) -> usize
 }
 
 // Puts a title as it stands in a label of the form.
-pub fn shown(out: &mut [u8], at: usize, s: &[u8], fenced: bool) -> usize
+fn shown(out: &mut [u8], at: usize, s: &[u8], fenced: bool) -> usize
     requires { ⌜ at + length (concat (formOf fenced .written) (now s)) < 2 ^ 64 ⌝ }
     ensures { λ r. ⌜ Put (concat (formOf fenced .written) (now (s .entry))) at (now (out .entry)) (now (out .exit)) r ⌝ }
 {
@@ -46,6 +46,16 @@ pub fn shown(out: &mut [u8], at: usize, s: &[u8], fenced: bool) -> usize
         return escapes(out, at, s);
     }
     put::bytes(out, at, s)
+}
+
+// Puts what follows the name in the entry of a node with the title s.
+pub fn labelled(out: &mut [u8], at: usize, s: &[u8], fenced: bool) -> usize
+    requires { ⌜ at + length (labelledIn (formOf fenced) (now s)) < 2 ^ 64 ⌝ }
+    ensures { λ r. ⌜ Put (labelledIn (formOf fenced) (now (s .entry))) at (now (out .entry)) (now (out .exit)) r ⌝ }
+{
+    let a = put::bytes(out, at, b" [label=\"");
+    let b = shown(out, a, s, fenced);
+    put::bytes(out, b, b"\", ordering=\"out\"]")
 }
 
 // Puts what stands between the numbers of a name.

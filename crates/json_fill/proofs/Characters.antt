@@ -7,7 +7,7 @@ use native.Mathlib.Omega.{arith}
 use lib.ListN.{length, drop, getD, length-drop, length-append}
 use lib.Seq.{drop-cons}
 use Rattle.rules.specs.Utf8.{utf8}
-use Rattle.json.specs.Text.{meant, Point, Chars, close, itself, short, coded}
+use Rattle.json.specs.Text.{meant, Chars, close, itself, short, coded}
 use Rattle.json.proofs.Unique.{point-one}
 use Rattle.put.specs.Put.{Put}
 use Rattle.json_fill.specs.Points.{Escaped, Decoded}

@@ -7,11 +7,10 @@ use native.Mathlib.Omega.{arith}
 use lib.ListN.{length, drop, getD, length-drop, length-append}
 use lib.Seq.{drop-cons}
 use borrow.Author.Tests.{eq-eqb}
-use Rattle.json.specs.Text.{space, plain, Sign, here, later, Chars, close, itself, short, coded, Text, quoted}
+use Rattle.json.specs.Text.{space, Sign, here, later, Chars, close, itself, short, coded, Text, quoted}
 use Rattle.json.proofs.Names.{clash}
 use Rattle.json.proofs.Forth.{apart, plain-facts}
 use Rattle.json.proofs.Unique.{chars-one}
-use Rattle.put.specs.Put.{Put}
 use Rattle.put.proofs.Puts.{idle, then}
 use Rattle.json_nodes.specs.Walk.{TitleAt}
 use Rattle.json_nodes.proofs.Steps.{White}

@@ -5,19 +5,20 @@ use mathlib.Core.List.{List}
 use mathlib.Core.Bool.{Bool, true, false, not}
 use Prim.Native.Nat.{ℕ, _*_, _≤_, _<_}
 use native.Mathlib.Omega.{arith}
-use lib.Dec.{leb, ltb}
+use lib.Dec.{leb}
 use lib.ListN.{length, take, drop}
 use lib.Seq.{take-append-seam}
 use borrow.Author.Tests.{leb-false, not-false}
 use Rattle.rules.specs.Base.{pick, laid}
 use Rattle.rules.specs.Utf8.{valid}
 use Rattle.rules.specs.Plan.{Node, count, planOf, nodeAt, depthAt, depthRule, mostLevels, mostTitle}
-use Rattle.rules.specs.Numbers.{number, second, badDepth, badUtf8}
+use Rattle.rules.specs.Numbers.{second, badDepth, badUtf8}
 use Rattle.rules.specs.Answers.{done, inRoom}
 use Rattle.rules.specs.Reader.{tableOf, titlesOf}
 use Rattle.rules.specs.declared.Answer.{Answer}
 use Rattle.rules.proofs.Lists.{length-plan}
 use Rattle.rules.proofs.Tests.{neither}
+use Rattle.rules.proofs.Room.{room-done}
 use Rattle.levels.specs.Accepted.{checked, Accepted}
 use Rattle.levels.proofs.Accepted.{checked-accepted, graph-next, graph-stops, title-short, title-length}
 use Rattle.levels.proofs.Plans.{node-plan}
@@ -32,14 +33,6 @@ module _ (T B : List ℕ) where
   p = planOf T B
 
   -- the writer is done: no refusal is met, and there is room for the text
-  room-done : (room needed : ℕ) → done (inRoom room needed) ≡ true → inRoom room needed ≡ Answer.Done needed
-  unfolding inRoom pick done
-  room-done room needed h = go (ltb room needed) h
-    where
-      go : (b : Bool) → done (pick b (Answer.Room needed) (Answer.Done needed)) ≡ true → pick b (Answer.Room needed) (Answer.Done needed) ≡ Answer.Done needed
-      go true e = absurd (clash e refl)
-      go false e = refl
-
   unrefused : (room : ℕ) → done (jsonAnswer T B room) ≡ true → done (checked false T B) ≡ true
   unfolding jsonAnswer
   unrefused room h = go (done (checked false T B)) refl

@@ -14,11 +14,11 @@ use Rattle.rules.proofs.Lists.{first-none}
 use Rattle.rules.specs.Base.{pick, first}
 use Rattle.rules.specs.Utf8.{valid}
 use Rattle.rules.specs.Plan.{Node, count, depthIn, startIn, sizeIn, titleIn, planOf, nodeAt, depthAt, depthRule}
-use Rattle.rules.specs.Numbers.{number, ragged, many, noNode, badDepth, badTitle, badUtf8, firstSuch, afterCount, afterNodes}
+use Rattle.rules.specs.Numbers.{ragged, many, noNode, badDepth, badTitle, badUtf8, firstSuch, afterCount, afterNodes}
 use Rattle.rules.specs.Answers.{done}
 use Rattle.rules.specs.declared.Answer.{Answer}
-use Rattle.rules.proofs.Firsts.{first-before}
 use Rattle.rules.proofs.Tests.{neither}
+use Rattle.rules.proofs.Firsts.{first-lacks}
 use Rattle.levels.specs.Accepted.{checked, Accepted}
 use Rattle.levels.proofs.Plans.{node-plan, depth-whole}
 use Rattle.levels.proofs.Tests.{right-title}
@@ -139,9 +139,6 @@ module _ (some : Bool) (T B : List ℕ) where
   pass h = passed (ragged T) (many T) (some && noNode T) (ltb D (count T)) (ltb K (count T)) (ltb U (count T)) D K U (ap done (sym checked-chain) ∙ h)
 
   -- none of a test's places is refused
-  none-of : (t : ℕ → Bool) → ltb (first t (count T)) (count T) ≡ false → (k : ℕ) → k < count T → t k ≡ false
-  none-of t e k h = first-before t (count T) k (omega (arith, ltb-false (first t (count T)) (count T) e))
-
   -- a table that is done is accepted,
   pub checked-accepted : done (checked some T B) ≡ true → Accepted T B
   unfolding D K U ragged many count
@@ -150,9 +147,9 @@ module _ (some : Bool) (T B : List ℕ) where
       record {
         whole = omega (arith, eqb-true (length T % 3) 0 (not-false (eqb (length T % 3) 0) (p .ragged-no)));
         few = ltb-false 256 (count T) (p .many-no);
-        depths = none-of (badDepth (planOf T B)) (p .depth-no);
-        titles = none-of (badTitle T B) (p .title-no);
-        valids = none-of (badUtf8 (planOf T B)) (p .utf8-no);
+        depths = first-lacks (badDepth (planOf T B)) (count T) (p .depth-no);
+        titles = first-lacks (badTitle T B) (count T) (p .title-no);
+        valids = first-lacks (badUtf8 (planOf T B)) (count T) (p .utf8-no);
       }
 
   -- what comes after the refusals is the answer,

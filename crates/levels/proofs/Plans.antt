@@ -9,7 +9,7 @@ use lib.ListN.{length, List·getD-eq-default}
 use Rattle.rules.specs.Base.{greatest, each, total}
 use Rattle.rules.specs.Plan.{Node, count, depthIn, titleIn, planOf, nodeAt, depthAt}
 use Rattle.rules.specs.Levels.{leaf, columnAt, rowsOf, columnsOf}
-use Rattle.rules.proofs.Lists.{each-at, length-plan, depth-plan}
+use Rattle.rules.proofs.Lists.{each-at, length-plan, depth-plan, total-same}
 
 -- node k of the table
 abbrev pub nodeIn : List ℕ → List ℕ → ℕ → Node
@@ -46,12 +46,7 @@ module _ (T B : List ℕ) where
         | no h ↦ depth-past k (omega arith) ∙ sym (List·getD-eq-default T 0 (omega arith))
       ]
 
--- sums and greatest of equal terms
-pub total-same : (f g : ℕ → ℕ) (n : ℕ) → ((k : ℕ) → k < n → f k ≡ g k) → total f n ≡ total g n
-unfolding total
-total-same f g zero h = refl
-total-same f g (suc n) h = rw (total-same f g n (λ k l. h k (omega arith)), h n (omega arith))
-
+-- greatest of equal terms
 pub greatest-snoc : {A : Type 0} (f : A → ℕ) (l : List A) (a : A) → greatest f (l ++ (a ∷ [])) ≡ max (greatest f l) (f a)
 unfolding greatest
 greatest-snoc f [] a = omega arith

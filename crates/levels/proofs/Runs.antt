@@ -3,14 +3,14 @@
 use mathlib.Core.Path.{_≡_, refl, sym, ap, _∙_}
 use mathlib.Core.List.{List, []}
 use mathlib.Core.Logic.{⊎-elim}
-use Prim.Native.Nat.{ℕ, zero, suc, _+_, _-_, _*_, _≤_, _<_}
+use Prim.Native.Nat.{ℕ, suc, _+_, _-_, _*_, _≤_, _<_}
 use native.Mathlib.Nat.{eq-or-lt-of-le, sub-self, sub-zero}
 use native.Mathlib.Numerals.{add-one}
 use native.Mathlib.Decide.{decLe}
 use native.Mathlib.Omega.{arith}
 use lib.ListN.{length, set}
 use Rattle.rules.specs.Base.{total}
-use Rattle.rules.specs.Plan.{Node, count, depthIn, planOf, depthAt}
+use Rattle.rules.specs.Plan.{count, depthIn, planOf}
 use Rattle.rules.specs.Levels.{leaf, columnAt, columnsOf}
 use Rattle.rules.proofs.Lists.{length-plan}
 use Rattle.rules.proofs.Columns.{column-next, leaf-yes, leaf-no}

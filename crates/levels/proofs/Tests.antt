@@ -9,7 +9,6 @@ use lib.Dec.{leb, ltb, eqb}
 use lib.ListN.{length, getD}
 use borrow.Author.Tests.{lt-ltb, le-ltb, le-leb, lt-leb, eq-eqb, ne-eqb, ltb-false}
 use Rattle.rules.specs.Plan.{Node, count, depthIn, startIn, sizeIn, titleIn, planOf, depthAt, depthRule}
-use Rattle.rules.specs.Utf8.{valid}
 use Rattle.rules.specs.Base.{pick, first}
 use Rattle.rules.specs.Numbers.{ragged, many, noNode, badDepth, badTitle, badUtf8, firstSuch, afterCount, afterNodes}
 use Rattle.rules.specs.declared.Answer.{Answer}

@@ -2,14 +2,14 @@
 -- A row of cells in table order is such a chain, since its keys rise and its row stays.
 use mathlib.Core.Path.{_≡_, refl, ap, sym, _∙_}
 use mathlib.Core.List.{List, [], _∷_, List·Memᴰ, List·Memᴰ·cases-cons, List·Memᴰ·head, List·Memᴰ·tail, List·Memᴰ·not-nil}
-use mathlib.Core.Bool.{Bool, true, false, _&&_, or-true, false≢true}
+use mathlib.Core.Bool.{true, false, _&&_, or-true, false≢true}
 use mathlib.Core.Logic.{⊎-elim, _⊎_}
 use Prim.Native.Nat.{ℕ, suc, _+_, _*_, _-_, _≤_, _<_}
-use native.Mathlib.Decide.{decLe, ℕ-discrete}
+use native.Mathlib.Decide.{ℕ-discrete}
 use native.Mathlib.Omega.{arith}
 use lib.Dec.{leb, ltb, eqb}
-use borrow.Author.Tests.{eq-eqb, ne-eqb, lt-ltb, le-ltb, leb-true, ltb-true}
-use Rattle.rules.specs.Base.{pick, keep}
+use borrow.Author.Tests.{eq-eqb, ne-eqb, lt-ltb, leb-true, ltb-true}
+use Rattle.rules.specs.Base.{pick}
 use Rattle.rules.specs.Levels.{Cell}
 use Rattle.marks.specs.Joint.{between, nextOr, atColumn, beyond, joint}
 use Rattle.marks.proofs.Points.{both}

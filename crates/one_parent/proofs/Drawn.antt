@@ -4,7 +4,6 @@ use mathlib.Core.Path.{_≡_, refl, ap, sym, _∙_}
 use mathlib.Core.List.{List}
 use mathlib.Core.Bool.{true}
 use Prim.Native.Nat.{ℕ}
-use lib.Dec.{ltb}
 use lib.ListN.{length, take}
 use lib.Seq.{take-append-seam}
 use Rattle.rules.specs.Base as Base
@@ -21,24 +20,21 @@ use Rattle.rules.specs.Answers.{done, afterCells, inRoom, untitled, shownPlan, 
 use Rattle.rules.specs.declared.Answer.{Answer}
 use Rattle.rules.specs.declared.Measure.{Measure}
 use Rattle.rules.specs.declared.Profile.{Profile}
-use Rattle.rules.proofs.Gates.{gate-plan, gate-next, gate-passed}
+use Rattle.rules.proofs.Gates.{gate-plan, gate-next, gate-passed, test-passed}
 use Rattle.rules.proofs.Replaced.{replaced-none}
+use Rattle.rules.proofs.Room.{room-done}
 use Rattle.marks.proofs.Ends.{lawful-in}
 use Rattle.one_parent.specs.Drawn.{NoneEmpty, Traced}
-use Rattle.one_parent.proofs.Passed.{passed, Passed, plan-passed, all-titled, all-valid}
+use Rattle.one_parent.proofs.Passed.{Passed, plan-passed, all-titled, all-valid}
 use Rattle.one_parent.proofs.Sheets.{on-laid, on-text}
 use Rattle.one_parent.proofs.OneParent.{one-parent-in}
 
--- past 7, 8 and 9 the answer is Done with what was needed
-room-done : (room needed : ℕ) → done (inRoom room needed) ≡ true → inRoom room needed ≡ Answer.Done needed
-unfolding inRoom done
-room-done room needed e = passed (ltb room needed) (Answer.Room needed) (Answer.Done needed) refl e .1
-
+-- past 7 and 8 the answer is what comes next
 cells-done : (needed cells : ℕ) (next : Answer) → done (afterCells needed cells next) ≡ true → afterCells needed cells next ≡ next
 unfolding afterCells done
 cells-done needed cells next e =
-    let large = passed _ Answer.Large _ refl e in
-    let small = passed _ (Answer.Canvas needed) next refl (ap done (sym (large .1)) ∙ e) in
+    let large = test-passed _ Answer.Large _ refl e in
+    let small = test-passed _ (Answer.Canvas needed) next refl (ap done (sym (large .1)) ∙ e) in
     large .1 ∙ small .1
 
 module _ (m : Measure) (f : Profile) (s : Standin) (T B lent out : List ℕ) (h : done (drawing (lookOf m f) s T B (length lent) (length out) .answer) ≡ true) where

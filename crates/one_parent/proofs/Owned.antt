@@ -11,7 +11,7 @@ use borrow.Author.Tests.{ltb-false}
 use Rattle.rules.specs.Drawing as D
 use Rattle.rules.specs.Base.{pick, any, concat, each}
 use Rattle.rules.specs.Plan.{Node}
-use Rattle.rules.specs.Levels.{Cell, view, inRow}
+use Rattle.rules.specs.Levels.{view, inRow}
 use Rattle.rules.specs.Strokes.{Stroke, across, down, write, mark, over}
 use Rattle.rules.specs.Drawing.{Marks, picture}
 use Rattle.rules.proofs.Tests.{neither}
@@ -61,48 +61,55 @@ changed ss x y m f = go (drawnOn ss x y) refl
     go false e = absurd (f (undrawn ss x y m e))
 
 module _ (len : List ℕ → ℕ) (marks : Marks) {p : List Node} (t : AllTitled p) where
-  -- every stroke of the drawing is an owner's
-  stroke-owned : (x y : ℕ) (s : Stroke) → List·Memᴰ s (D.strokes len marks (view p)) → touches s x y ≡ true → (o : Owner) × Owns len marks p o x y
-  unfolding D.strokes
-  stroke-owned x y s m e =
-      ⊎-elim (λ (a : List·Memᴰ s (A ++ R ++ C ++ B)).
-      ⊎-elim (λ (b : List·Memᴰ s (A ++ R ++ C)).
-      ⊎-elim (λ (c : List·Memᴰ s (A ++ R)).
-      ⊎-elim
-      (λ (d : List·Memᴰ s A). (axis, record { has = tt; drawn = mem-drawn A x y d e }))
-      (λ (d : List·Memᴰ s R). (let w = each-mem (D.rowIndex len marks (view p)) (view p .rows) d in (rowIndex (w .0), record { has = w .1; drawn = mem-drawn _ x y (w .2) e })))
-      (List·Memᴰ·append-cases A c))
-      (λ (c : List·Memᴰ s C). (let w = each-mem (D.columnIndex len marks (view p)) (view p .columns) c in (columnIndex (w .0), record { has = w .1; drawn = mem-drawn _ x y (w .2) e })))
-      (List·Memᴰ·append-cases (A ++ R) b))
-      (λ (b : List·Memᴰ s B). (let w = concat-mem (D.box len marks (view p)) (view p .cells) b in boxed (w .0) (w .1) (w .2)))
-      (List·Memᴰ·append-cases (A ++ R ++ C) a))
-      (λ (a : List·Memᴰ s K).
-      (let w = each-mem (λ i. concat (D.connector len marks (view p)) (inRow (view p .cells) i)) (view p .rows) a in
-      let u = concat-mem (D.connector len marks (view p)) (inRow (view p .cells) (w .0)) (w .2) in
-      wired (u .0) (mem-inRow (view p .cells) (w .0) (u .1) .0) (u .2)))
-      (List·Memᴰ·append-cases (A ++ R ++ C ++ B) m)
-    where
-      A : List Stroke
-      A = D.axis len marks (view p)
+  -- A stroke that is drawn on (x, y) has an owner, whichever part of the drawing it is of:
+  module _ (x y : ℕ) (s : Stroke) (e : touches s x y ≡ true) where
+    abbrev Owned : Type 0
+    Owned = (o : Owner) × Owns len marks p o x y
 
-      R : List Stroke
-      R = each (D.rowIndex len marks (view p)) (view p .rows)
+    row-owned : List·Memᴰ s (each (D.rowIndex len marks (view p)) (view p .rows)) → Owned
+    row-owned m = let w = each-mem (D.rowIndex len marks (view p)) (view p .rows) m in (rowIndex (w .0), record { has = w .1; drawn = mem-drawn _ x y (w .2) e })
 
-      C : List Stroke
-      C = each (D.columnIndex len marks (view p)) (view p .columns)
+    column-owned : List·Memᴰ s (each (D.columnIndex len marks (view p)) (view p .columns)) → Owned
+    column-owned m = let w = each-mem (D.columnIndex len marks (view p)) (view p .columns) m in (columnIndex (w .0), record { has = w .1; drawn = mem-drawn _ x y (w .2) e })
 
-      B : List Stroke
-      B = concat (D.box len marks (view p)) (view p .cells)
+    box-owned : List·Memᴰ s (concat (D.box len marks (view p)) (view p .cells)) → Owned
+    box-owned m =
+        let b = concat-mem (D.box len marks (view p)) (view p .cells) m in
+        let w = cell-node t (b .0) (b .1) in
+        (box (w .0), record { has = w .1; drawn = mem-drawn _ x y (rw (w .2) at (b .2)) e })
 
-      K : List Stroke
-      K = each (λ i. concat (D.connector len marks (view p)) (inRow (view p .cells) i)) (view p .rows)
+    wire-owned : List·Memᴰ s (each (λ i. concat (D.connector len marks (view p)) (inRow (view p .cells) i)) (view p .rows)) → Owned
+    wire-owned m =
+        let r = each-mem (λ i. concat (D.connector len marks (view p)) (inRow (view p .cells) i)) (view p .rows) m in
+        let k = concat-mem (D.connector len marks (view p)) (inRow (view p .cells) (r .0)) (r .2) in
+        let w = cell-node t (k .0) (mem-inRow (view p .cells) (r .0) (k .1) .0) in
+        (connector (w .0), record { has = w .1; drawn = mem-drawn _ x y (rw (w .2) at (k .2)) e })
 
-      boxed : (c : Cell) → List·Memᴰ c (view p .cells) → List·Memᴰ s (D.box len marks (view p) c) → (o : Owner) × Owns len marks p o x y
-      boxed c n q = (let w = cell-node t c n in (box (w .0), record { has = w .1; drawn = mem-drawn _ x y (rw (w .2) at q) e }))
+    -- and the drawing is the axis, then these
+    stroke-owned : List·Memᴰ s (D.strokes len marks (view p)) → Owned
+    unfolding D.strokes
+    stroke-owned m = ⊎-elim first wire-owned (List·Memᴰ·append-cases (A ++ R ++ C ++ B) m)
+      where
+        A : List Stroke
+        A = D.axis len marks (view p)
 
-      wired : (c : Cell) → List·Memᴰ c (view p .cells) → List·Memᴰ s (D.connector len marks (view p) c) → (o : Owner) × Owns len marks p o x y
-      wired c n q = (let w = cell-node t c n in (connector (w .0), record { has = w .1; drawn = mem-drawn _ x y (rw (w .2) at q) e }))
+        R : List Stroke
+        R = each (D.rowIndex len marks (view p)) (view p .rows)
+
+        C : List Stroke
+        C = each (D.columnIndex len marks (view p)) (view p .columns)
+
+        B : List Stroke
+        B = concat (D.box len marks (view p)) (view p .cells)
+
+        sides : List·Memᴰ s (A ++ R) → Owned
+        sides m = ⊎-elim (λ (d : List·Memᴰ s A). (axis, record { has = tt; drawn = mem-drawn A x y d e })) row-owned (List·Memᴰ·append-cases A m)
+
+        first : List·Memᴰ s (A ++ R ++ C ++ B) → Owned
+        first m =
+            ⊎-elim (λ (d : List·Memᴰ s (A ++ R ++ C)). ⊎-elim sides column-owned (List·Memᴰ·append-cases (A ++ R) d)) box-owned
+            (List·Memᴰ·append-cases (A ++ R ++ C) m)
 
   pub has-owner : (x y : ℕ) → (picture len marks (view p) x y ≡ 0x20 → ⊥) → (o : Owner) × Owns len marks p o x y
   unfolding D.picture
-  has-owner x y f = let w = changed (D.strokes len marks (view p)) x y 0x20 f in stroke-owned x y (w .0) (w .1) (w .2)
+  has-owner x y f = let w = changed (D.strokes len marks (view p)) x y 0x20 f in stroke-owned x y (w .0) (w .2) (w .1)

@@ -18,9 +18,9 @@ use Rattle.rules.proofs.Tests.{both}
 use Rattle.rules.proofs.Lists.{mem-keep}
 use Rattle.rules.proofs.Keeps.{kept-mem}
 use Rattle.rules.proofs.Firsts.{first-most, first-holds, first-before}
+use Rattle.rules.proofs.Columns.{columns-order, columns-stay}
 use Rattle.marks.proofs.Places.{mem-inRow}
 use Rattle.marks.proofs.Wired.{any-some}
-use Rattle.marks.proofs.Plans.{columns-order, columns-stay}
 use Rattle.explain.proofs.Titles.{one-place}
 use Rattle.one_parent.specs.Parent.{last, parentOf, AllTitled, cellOf}
 use Rattle.one_parent.proofs.Nodes.{laid, cell-in, cell-node}

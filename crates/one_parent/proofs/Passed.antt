@@ -2,7 +2,7 @@
 -- the limits and the depth rule hold, every title is valid UTF-8, and none is empty where none is told of or a stand-in is given.
 use mathlib.Core.Path.{_≡_, refl, ap, sym, _∙_}
 use mathlib.Core.List.{List, [], _∷_, List·Memᴰ, Memᴰ·of-map, List·Memᴰ·eq-of-singleton}
-use mathlib.Core.Bool.{Bool, true, false, false≢true}
+use mathlib.Core.Bool.{Bool, true, false}
 use Prim.Native.Nat.{ℕ, suc, zero, _+_, _≤_, _<_}
 use native.Mathlib.Nat.{not-suc-le-zero}
 use native.Mathlib.Omega.{arith}
@@ -23,22 +23,17 @@ use Rattle.rules.specs.declared.Answer.{Answer}
 use Rattle.rules.proofs.Firsts.{first-most}
 use Rattle.rules.proofs.Lists.{each-at}
 use Rattle.rules.proofs.Replaced.{replaced-length, replaced-at, replaced-depth, fine-standin, shown-some}
+use Rattle.rules.proofs.Gates.{test-passed}
 use Rattle.marks.proofs.Tests.{Drawable, drawable-of, first-all, ruled}
 use Rattle.marks.proofs.Points.{each-mem}
 use Rattle.one_parent.specs.Parent.{last, parentOf, AllTitled}
 use Rattle.one_parent.specs.Drawn.{NoneEmpty}
 
--- ---- one test
-pub passed : (b : Bool) (a next : Answer) → done a ≡ false → done (pick b a next) ≡ true → (b ≡ false) × (pick b a next ≡ next)
-unfolding pick
-passed true a next f e = absurd (false≢true (sym f ∙ e))
-passed false a next f e = (refl, refl)
-
 first-passed : (t : ℕ → Bool) (n : ℕ) (at : ℕ → Answer) (next : Answer) → ((k : ℕ) → done (at k) ≡ false) → done (firstSuch t n at next) ≡ true
     → (first t n ≡ n) × (firstSuch t n at next ≡ next)
 unfolding firstSuch
 first-passed t n at next f e =
-    let q = passed (ltb (first t n) n) (at (first t n)) next (f (first t n)) e in
+    let q = test-passed (ltb (first t n) n) (at (first t n)) next (f (first t n)) e in
     (omega (arith, first-most t n, ltb-false (first t n) n (q .0)), q .1)
 
 -- ---- all before a drawing's 7
@@ -50,11 +45,11 @@ pub record Passed (allowed : ℕ → Bool) (s : Standin) (T B : List ℕ) : Type
 pub plan-passed : (allowed : ℕ → Bool) (s : Standin) (T B : List ℕ) (next : Answer) → done (afterPlan allowed s T B next) ≡ true → Passed allowed s T B
 unfolding A.afterPlan N.afterCount N.afterNodes N.afterStandin N.badUtf8 done
 plan-passed allowed s T B next e =
-    let ragged = passed _ Answer.Ragged _ refl e in
+    let ragged = test-passed _ Answer.Ragged _ refl e in
     let e₂ = ap done (sym (ragged .1)) ∙ e in
-    let many = passed _ Answer.Many _ refl e₂ in
+    let many = test-passed _ Answer.Many _ refl e₂ in
     let e₃ = ap done (sym (many .1)) ∙ e₂ in
-    let nodes = passed _ Answer.None _ refl e₃ in
+    let nodes = test-passed _ Answer.None _ refl e₃ in
     let e₄ = ap done (sym (nodes .1)) ∙ e₃ in
     let depths = first-passed _ _ Answer.Depth _ (λ k. refl) e₄ in
     let e₅ = ap done (sym (depths .1)) ∙ e₄ in
@@ -62,7 +57,7 @@ plan-passed allowed s T B next e =
     let e₆ = ap done (sym (titles .1)) ∙ e₅ in
     let letters = first-passed (badUtf8 (planOf T B)) (count T) Answer.Utf8 _ (λ k. refl) e₆ in
     let e₁₂ = ap done (sym (letters .1)) ∙ e₆ in
-    let stand = passed (badStandin allowed s) Answer.Standin _ refl e₁₂ in
+    let stand = test-passed (badStandin allowed s) Answer.Standin _ refl e₁₂ in
     record {
       plan = drawable-of T B (many .0) (nodes .0) (depths .0);
       sound = λ k h. not-false (valid (nodeAt (planOf T B) k .title)) (first-all (badUtf8 (planOf T B)) (count T) (letters .0) k h);

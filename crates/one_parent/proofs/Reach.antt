@@ -13,7 +13,6 @@ use borrow.Author.Tests.{eq-eqb, ne-eqb, eqb-true, le-leb, leb-true, lt-ltb, ltb
 use Rattle.rules.specs.Measures as M
 use Rattle.rules.specs.Drawing as D
 use Rattle.rules.specs.Base.{pick, keep, any, concat, each}
-use Rattle.rules.specs.Utf8.{points}
 use Rattle.rules.specs.Levels.{Cell, View, children}
 use Rattle.rules.specs.Measures.{linesIn, lineCount, longest, columnOffset, width}
 use Rattle.rules.specs.Strokes.{Stroke, across, down, write, dot}

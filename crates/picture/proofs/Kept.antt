@@ -1,29 +1,29 @@
 -- (xiii) An ordinary plan keeps to the bytes of a profile exactly when its picture does. One way: a drawing is made of marks, digits and
 -- letters that keep to them (rules' Kept). The other: a picture's only plan has its titles from the picture's own marks.
 use mathlib.Core.Path.{_≡_, refl, ap, sym, _∙_, subst}
-use mathlib.Core.List.{List, [], _∷_, _++_, map, Memᴰ·of-map, List·Memᴰ, List·Memᴰ·head, List·Memᴰ·tail, List·Memᴰ·not-nil, List·Memᴰ·eq-of-singleton}
+use mathlib.Core.List.{List, [], _∷_, map, Memᴰ·of-map, List·Memᴰ, List·Memᴰ·head, List·Memᴰ·tail, List·Memᴰ·not-nil, List·Memᴰ·eq-of-singleton}
 use mathlib.Core.Bool.{Bool, true, false, not, _&&_, _||_}
-use Prim.Native.Nat.{ℕ, suc, _+_, _*_, _-_, _<_}
+use Prim.Native.Nat.{ℕ, suc, _+_, _*_, _-_}
 use native.Mathlib.Decide.{decLe}
 use native.Mathlib.Omega.{arith}
 use lib.Dec.{leb, ltb, eqb}
 use lib.ListN.{length, getD, take, List·getD-eq-default}
-use Rattle.rules.specs.Base.{pick, every, concat, first, greatest}
+use Rattle.rules.specs.Base.{pick, every, concat, first}
 use Rattle.rules.specs.Utf8.{valid, points, utf8}
 use Rattle.rules.specs.Lines.{linesOf}
 use Rattle.rules.specs.Plan.{Node, nodeAt}
 use Rattle.rules.specs.Numbers.{badDepth}
 use Rattle.rules.specs.Levels.{Cell, view}
 use Rattle.rules.specs.Measures.{area}
-use Rattle.rules.specs.Drawing.{Marks, text}
+use Rattle.rules.specs.Drawing.{Marks}
 use Rattle.rules.specs.Look.{Look}
 use Rattle.rules.specs.Ordinary.{endsInSpace, ordinaryTitle, ordinary}
 use Rattle.rules.specs.Reader.{ended, pictureLines, Draws}
 use Rattle.rules.proofs.Tests.{both}
 use Rattle.rules.proofs.Every.{every-mem, every-all, every-join, every-append}
 use Rattle.rules.proofs.Everywhere.{Holds}
-use Rattle.rules.proofs.Kept.{Kept, Drawable, points-kept, text-kept}
-use Rattle.rules.proofs.Candidate.{from, trim, joined, next, marked, lineAt, linesAt, foundAt, bandOf, found, planFound, outside, at, candidate}
+use Rattle.rules.proofs.Kept.{Kept, points-kept, text-kept}
+use Rattle.rules.proofs.Candidate.{from, trim, joined, next, marked, lineAt, linesAt, foundAt, found, planFound, outside, at, candidate}
 use Rattle.marks.specs.Lawful.{Lawful}
 use Rattle.marks.proofs.Reader.{back}
 use Rattle.marks.proofs.Delivered.{drawn-valid, drawn-ended}

@@ -1,7 +1,7 @@
 -- What the arrays hold once the outside of a picture is seen: the centres of its rows and columns and the rows' offsets, as the candidate has them.
 use mathlib.Core.Path.{_≡_, refl, ap, _∙_}
 use mathlib.Core.List.{List}
-use Prim.Native.Nat.{ℕ, _+_, _-_, _≤_, _<_}
+use Prim.Native.Nat.{ℕ, _+_, _*_, _-_, _≤_, _<_}
 use native.Mathlib.Decide.{decLe}
 use native.Mathlib.Omega.{arith}
 use lib.ListN.{length, getD, replicate}
@@ -19,10 +19,10 @@ use Rattle.tree_view.proofs.Laid.{at-whole}
 use Rattle.picture.specs.Answered.{Picture}
 
 -- there are at most 33 rows and 257 columns
-pub rows-most : (g : ℕ → ℕ → ℕ) (w h : ℕ) → outside g w h .nr ≤ 33
+rows-most : (g : ℕ → ℕ → ℕ) (w h : ℕ) → outside g w h .nr ≤ 33
 rows-most g w h = elim (decLe (outside g w h .nr) 33) [ yes a ↦ a | no a ↦ absurd (omega (arith, row-within g w h 33 (omega arith) .0)) ]
 
-pub columns-most : (g : ℕ → ℕ → ℕ) (w h : ℕ) → outside g w h .nc ≤ 257
+columns-most : (g : ℕ → ℕ → ℕ) (w h : ℕ) → outside g w h .nc ≤ 257
 columns-most g w h = elim (decLe (outside g w h .nc) 257) [ yes a ↦ a | no a ↦ absurd (omega (arith, column-within g w h 257 (omega arith) .0)) ]
 
 -- the calls' answers, in turn
@@ -31,10 +31,10 @@ module _ (cells : List ℕ) (w h : ℕ) (pic : Picture cells w h) (x nrows ncols
     (cy-is : cy ≡ filled (group (λ y. marked (seen cells w h) x y) (λ k. 1) 2 h) 0 nrows (replicate 33 0))
     (columns-is : ncols ≡ groups (λ x. marked (seen cells w h) x 0) (λ k. length (digits k)) 0 w 257)
     (cx-is : cx ≡ filled (λ k. group (λ x. marked (seen cells w h) x 0) (λ k. length (digits k)) 0 w k + halfUp (length (digits k))) 0 ncols (replicate 257 0)) where
-  pub rows-known : nrows ≡ outside (seen cells w h) w h .nr
+  rows-known : nrows ≡ outside (seen cells w h) w h .nr
   rows-known = rw x-is at rows-is ∙ rows-seen (seen cells w h) w h
 
-  pub columns-known : ncols ≡ outside (seen cells w h) w h .nc
+  columns-known : ncols ≡ outside (seen cells w h) w h .nc
   columns-known = columns-is ∙ columns-seen (seen cells w h) w h
 
   ys : cy ≡ filled (rowAt (seen cells w h) w h) 0 (outside (seen cells w h) w h .nr) (replicate 33 0)
@@ -46,12 +46,16 @@ module _ (cells : List ℕ) (w h : ℕ) (pic : Picture cells w h) (x nrows ncols
   row-known : (i : ℕ) → i < outside (seen cells w h) w h .nr → getD cy i 0 ≡ outside (seen cells w h) w h .cy i
   row-known i l = ap (λ (a : List ℕ). getD a i 0) ys ∙ row-seen (seen cells w h) w h _ (replicate 33 0) i l (rows-most (seen cells w h) w h)
 
-  pub rows-low : (i : ℕ) → i < nrows → getD cy i 0 ≤ 1048576
+  rows-low : (i : ℕ) → i < nrows → getD cy i 0 ≤ 1048576
   rows-low i l =
       let k : i < outside (seen cells w h) w h .nr = omega (arith, rows-known) in
       omega (arith, row-known i k, row-within (seen cells w h) w h i k .1, pic .high)
 
-  pub known : (band : List ℕ) → band ≡ filled (bandSeen (seen cells w h) (λ i. getD cy i 0) (λ j. getD cx j 0) ncols) 0 nrows (replicate 33 0) → (marks : Marks) → Known marks cells w h cx band cy
+  -- what the bands are asked for
+  pub bands-ask : ((w * h ≤ length cells) × (ncols ≤ 257) × (nrows ≤ 33)) × ((i : ℕ) → i < nrows → getD cy i 0 ≤ 1048576)
+  bands-ask = ((pic .fits, omega (arith, columns-known, columns-most (seen cells w h) w h), omega (arith, rows-known, rows-most (seen cells w h) w h)), rows-low)
+
+  known : (band : List ℕ) → band ≡ filled (bandSeen (seen cells w h) (λ i. getD cy i 0) (λ j. getD cx j 0) ncols) 0 nrows (replicate 33 0) → (marks : Marks) → Known marks cells w h cx band cy
   known band b marks = record {
     held = pic .fits;
     wide = pic .wide;
@@ -65,3 +69,8 @@ module _ (cells : List ℕ) (w h : ℕ) (pic : Picture cells w h) (x nrows ncols
         ∙ rw (columns-known, ys, xs)
         (band-seen (seen cells w h) w h marks (seen-open cells w h (λ k e. pic .held k e .no-end)) (replicate 33 0) (replicate 257 0) m (columns-most (seen cells w h) w h) i l));
   }
+
+  -- and all, once they are there
+  pub outside-known : (band : List ℕ) → band ≡ filled (bandSeen (seen cells w h) (λ i. getD cy i 0) (λ j. getD cx j 0) ncols) 0 nrows (replicate 33 0) → (marks : Marks)
+      → Known marks cells w h cx band cy × (ncols ≡ outside (seen cells w h) w h .nc) × (nrows ≡ outside (seen cells w h) w h .nr)
+  outside-known band b marks = (known band b marks, columns-known, rows-known)

@@ -4,7 +4,6 @@ use mathlib.Core.Path.{_≡_, refl, ap, sym, _∙_}
 use mathlib.Core.List.{List, [], _∷_, List·Memᴰ}
 use mathlib.Core.Bool.{true}
 use Prim.Native.Nat.{ℕ, suc, zero, _+_, _<_}
-use native.Mathlib.Omega.{arith}
 use lib.Dec.{eqb}
 use lib.ListN.{length, getD}
 use Rattle.rules.specs.Base.{concat, each}
@@ -21,11 +20,11 @@ use Rattle.rules.specs.declared.Measure.{Measure}
 use Rattle.rules.specs.declared.Profile.{Profile}
 use Rattle.rules.proofs.Keeps.{kept-mem}
 use Rattle.rules.proofs.Text.{each-same}
+use Rattle.rules.proofs.Lists.{total-same}
 use Rattle.marks.proofs.Order.{concat-same}
 use Rattle.marks.proofs.Plans.{node-mem, cell-from}
 use Rattle.utf8.proofs.Ascii.{plain-points}
 use Rattle.text.proofs.Counted.{greatest-same}
-use Rattle.levels.proofs.Plans.{total-same}
 
 -- ---- two lengths that agree on the longest line of each cell
 module _ (f g : List ℕ → ℕ) (marks : Marks) (v : View) (agree : (c : Cell) → List·Memᴰ c (v .cells) → longest f c ≡ longest g c) where

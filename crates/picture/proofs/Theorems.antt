@@ -9,7 +9,6 @@ use lib.ListN.{length}
 use Rattle.rules.specs.Look.{Look}
 use Rattle.rules.specs.Base.{pick, laid}
 use Rattle.rules.specs.Plan.{Node}
-use Rattle.rules.specs.Numbers.{readerNumber}
 use Rattle.rules.specs.Levels.{view}
 use Rattle.rules.specs.Measures.{area}
 use Rattle.rules.specs.Drawing.{text}

@@ -7,6 +7,7 @@ ghost use Rattle.rules.specs.Look.{base, allowedIn, lookOf};
 ghost use Rattle.rules.specs.Reader.{Reads};
 ghost use Rattle.picture.specs.Answered.{Picture, anyBytes, Answered};
 use crate::look::look;
+use picture_sight::Sight;
 use rules::Measure;
 use rules::Profile;
 use rules::Reading;
@@ -39,7 +40,15 @@ fn look_as(
     ensures { λ r. ⌜ Answered (anyBytes measure profile) (now (cells .entry)) width lines (now (table .entry)) (now (titles .entry)) r (now (table .exit)) (now (titles .exit)) ⌝ }
 {
     let g = rules::marks_of(profile);
-    look(cells, width as u32, lines as u32, measure, g, table, titles)
+    let wide = width as u32;
+    let high = lines as u32;
+    let sight = Sight {
+        width: wide,
+        height: high,
+        measure,
+        marks: g,
+    };
+    look(cells, sight, table, titles)
 }
 
 // Reads a picture whose lines are measured and whose marks are drawn as told, by way of the canvas: its plan into the table and the titles.

@@ -7,17 +7,13 @@ ghost use Rattle.picture_sight.specs.Seen.{seen};
 ghost use Rattle.picture_gather.specs.Known.{Known};
 ghost use Rattle.picture.specs.Answered.{Picture, lookIn, Answered};
 use crate::tell::tell;
-use rules::Glyphs;
-use rules::Measure;
+use picture_sight::Sight;
 use rules::Reading;
 
 // Gathers the plan by the centres and the offsets, and delivers it, if the picture is its drawing.
 fn inside(
     cells: &[u32],
-    width: u32,
-    height: u32,
-    measure: Measure,
-    g: Glyphs,
+    sight: Sight,
     cx: &[u32; 257],
     ncols: u32,
     band: &[u32; 33],
@@ -26,10 +22,10 @@ fn inside(
     table: &mut [u32],
     titles: &mut [u8],
 ) -> Reading
-    requires { ⌜ Picture (now cells) width height × Lawful (lenOf measure) (marksIn g) ⌝ }
-    requires { ⌜ Known (marksIn g) (now cells) width height (now cx) (now band) (now cy)
-        × (ncols ≡ outside (seen (now cells) width height) width height .nc) × (nrows ≡ outside (seen (now cells) width height) width height .nr) ⌝ }
-    ensures { λ r. ⌜ Answered (lookIn measure g) (now (cells .entry)) width height (now (table .entry)) (now (titles .entry)) r (now (table .exit)) (now (titles .exit)) ⌝ }
+    requires { ⌜ Picture (now cells) (sight .width) (sight .height) × Lawful (lenOf (sight .measure)) (marksIn (sight .marks)) ⌝ }
+    requires { ⌜ Known (marksIn (sight .marks)) (now cells) (sight .width) (sight .height) (now cx) (now band) (now cy)
+        × (ncols ≡ outside (seen (now cells) (sight .width) (sight .height)) (sight .width) (sight .height) .nc) × (nrows ≡ outside (seen (now cells) (sight .width) (sight .height)) (sight .width) (sight .height) .nr) ⌝ }
+    ensures { λ r. ⌜ Answered (lookIn (sight .measure) (sight .marks)) (now (cells .entry)) (sight .width) (sight .height) (now (table .entry)) (now (titles .entry)) r (now (table .exit)) (now (titles .exit)) ⌝ }
 {
     let mut found = [0u32; 768];
     let mut middle = [0u32; 256];
@@ -37,10 +33,7 @@ fn inside(
     let mut longest = [0u32; 256];
     let c = picture_gather::gather(
         cells,
-        width,
-        height,
-        measure,
-        g,
+        sight,
         cx,
         ncols,
         band,
@@ -58,10 +51,7 @@ fn inside(
     let entries = 3 * nodes;
     tell(
         cells,
-        width,
-        height,
-        measure,
-        g,
+        sight,
         &found[..entries],
         nodes,
         c.bytes,
@@ -75,37 +65,25 @@ fn inside(
 }
 
 // The plan that is seen, from the outside in, delivered, if the picture is its drawing.
-pub(crate) fn look(
-    cells: &[u32],
-    width: u32,
-    height: u32,
-    measure: Measure,
-    g: Glyphs,
-    table: &mut [u32],
-    titles: &mut [u8],
-) -> Reading
-    requires { ⌜ Picture (now cells) width height × Lawful (lenOf measure) (marksIn g) ⌝ }
-    ensures { λ r. ⌜ Answered (lookIn measure g) (now (cells .entry)) width height (now (table .entry)) (now (titles .entry)) r (now (table .exit)) (now (titles .exit)) ⌝ }
+pub(crate) fn look(cells: &[u32], sight: Sight, table: &mut [u32], titles: &mut [u8]) -> Reading
+    requires { ⌜ Picture (now cells) (sight .width) (sight .height) × Lawful (lenOf (sight .measure)) (marksIn (sight .marks)) ⌝ }
+    ensures { λ r. ⌜ Answered (lookIn (sight .measure) (sight .marks)) (now (cells .entry)) (sight .width) (sight .height) (now (table .entry)) (now (titles .entry)) r (now (table .exit)) (now (titles .exit)) ⌝ }
 {
     let mut cx = [0u32; 257];
     let mut cy = [0u32; 33];
     let mut band = [0u32; 33];
-    let x = picture_sight::margin(cells, width, height);
-    let nrows = picture_sight::seen_rows(cells, width, height, x, &mut cy);
-    let ncols = picture_sight::seen_columns(cells, width, height, &mut cx);
-    picture_sight::bands(cells, width, height, &cx, ncols, &cy, nrows, &mut band);
-    inside(
+    let x = picture_sight::margin(cells, sight.width, sight.height);
+    let nrows = picture_sight::seen_rows(cells, sight.width, sight.height, x, &mut cy);
+    let ncols = picture_sight::seen_columns(cells, sight.width, sight.height, &mut cx);
+    picture_sight::bands(
         cells,
-        width,
-        height,
-        measure,
-        g,
+        sight.width,
+        sight.height,
         &cx,
         ncols,
-        &band,
         &cy,
         nrows,
-        table,
-        titles,
-    )
+        &mut band,
+    );
+    inside(cells, sight, &cx, ncols, &band, &cy, nrows, table, titles)
 }

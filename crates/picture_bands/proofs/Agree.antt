@@ -22,11 +22,13 @@ use Rattle.marks.proofs.Places.{left-low}
 use Rattle.marks.proofs.Picture.{Laid, laid}
 use Rattle.marks.proofs.Spots.{spot-field, mark-block}
 use Rattle.picture_sight.specs.Seen.{seen}
-use Rattle.row_strips.specs.Row.{Row, RowOf}
-use Rattle.row_strips.specs.Strip.{spotIn}
+use Rattle.row_strips.specs.declared.band.Band.{Band}
+use Rattle.row_strips.specs.Row.{Row, RowOf, cellsIn, goesIn, bandAt, rowWith}
+use Rattle.row_strips.specs.Strip.{spotIn, Apt}
 use Rattle.row_strips.specs.Parts.{columnFrom, rowFrom}
 use Rattle.row_strips.proofs.Ranges.{column-part, row-part, column-stop, row-stop, row-bends, column-last, row-last}
-use Rattle.row_strips.proofs.Spots.{spotted}
+use Rattle.row_strips.proofs.Made.{made}
+use Rattle.row_strips.proofs.Spots.{spotted, apt}
 use Rattle.picture_bands.specs.Strip.{stripSame, stripsSame}
 use Rattle.picture_bands.specs.Ready.{Ready}
 use Rattle.picture_bands.proofs.Strips.{strips-none, strips-next}
@@ -35,8 +37,8 @@ pub seen-at : (cells : List ℕ) (w h x y : ℕ) → x < w → y < h → seen ce
 unfolding seen pick
 seen-at cells w h x y a b = rw (lt-ltb x w a, lt-ltb y h b)
 
-module _ {len : List ℕ → ℕ} {marks : Marks} {p : List Node} (cells : List ℕ) {w h : ℕ} {T : List ℕ} {nodes : ℕ} {C L G cx xs : List ℕ} {ncols : ℕ} {cy ys : List ℕ} {nrows : ℕ}
-    (q : Ready len marks p (seen cells w h) w h T nodes C L G cx xs ncols cy ys nrows) where
+module _ {len : List ℕ → ℕ} {marks : Marks} {p : List Node} (cells : List ℕ) {w h : ℕ} {T : List ℕ} {nodes : ℕ} {C L G cx xs : List ℕ} {ncols : ℕ} {ys : List ℕ} {nrows : ℕ}
+    (q : Ready len marks p (seen cells w h) w h T nodes C L G cx xs ncols ys nrows) where
   drawn : Laid (view p)
   drawn = laid len marks p (q .known .drawable)
 
@@ -44,7 +46,7 @@ module _ {len : List ℕ → ℕ} {marks : Marks} {p : List Node} (cells : List 
   abbrev pub agreed : (a b c e : ℕ) → Bool
   agreed a b c e = alikeIn (seen cells w h) (markAt len marks (view p)) a b c e
 
-  module _ (i : ℕ) (hi : i < view p .rows) (r : Row) (o : RowOf T nodes C L ncols cy ys nrows h i r) where
+  module _ (i : ℕ) (hi : i < view p .rows) (r : Row) (o : RowOf T nodes C L ncols ys nrows h i r) where
     -- one column of row i
     strip-mark : (j : ℕ) → j < view p .columns
         → stripSame marks cells w r L G cx xs ncols j ≡ agreed (columnFrom len (view p) j) (columnFrom len (view p) (j + 1)) (rowFrom (view p) i) (rowFrom (view p) (i + 1))
@@ -86,13 +88,13 @@ module _ {len : List ℕ → ℕ} {marks : Marks} {p : List Node} (cells : List 
         ∙ ap (λ (n : ℕ). agreed (M.d (view p) + 4) (columnFrom len (view p) n) (rowFrom (view p) i) (rowFrom (view p) (i + 1))) z
 
     -- and all
-    pub band-mark : stripsSame marks cells w r L G cx xs ncols ncols ≡ agreed (M.d (view p) + 4) w (rowFrom (view p) i) (rowFrom (view p) (i + 1))
+    band-mark : stripsSame marks cells w r L G cx xs ncols ncols ≡ agreed (M.d (view p) + 4) w (rowFrom (view p) i) (rowFrom (view p) (i + 1))
     band-mark =
         let e : columnFrom len (view p) ncols ≡ w = ap (columnFrom len (view p)) (q .known .numbers .columns-are) ∙ column-last len marks (view p) ∙ sym (q .known .numbers .wide) in
         strips-mark ncols (omega (arith, q .known .numbers .columns-are)) (drawn .proper-view .columned) ∙ rw e
 
     -- the row lies on the canvas
-    pub row-fits : w * h ≤ length cells → (r .end * w ≤ length cells) × (r .top ≤ r .bend)
+    row-fits : w * h ≤ length cells → (r .end * w ≤ length cells) × (r .top ≤ r .bend)
     row-fits f =
         let d = row-part len marks (view p) i hi in
         let e : r .end ≤ h = omega (arith, o .end-is, row-stop len marks (view p) (q .known .numbers) i hi, d .on-canvas, q .known .numbers .high) in
@@ -105,7 +107,7 @@ module _ {len : List ℕ → ℕ} {marks : Marks} {p : List Node} (cells : List 
       let z : rowOffset (view p) 0 ≡ 3 = unfold M.rowOffset in refl in
       in-none (seen cells w h) (markAt len marks (view p)) (M.d (view p) + 4) w 3 (rowFrom (view p) 0) (omega (arith, d .from-is))
 
-  pub rows-more : (i : ℕ) → i < view p .rows → agreed (M.d (view p) + 4) w 3 (rowFrom (view p) i) ≡ true
+  rows-more : (i : ℕ) → i < view p .rows → agreed (M.d (view p) + 4) w 3 (rowFrom (view p) i) ≡ true
       → true ≡ agreed (M.d (view p) + 4) w (rowFrom (view p) i) (rowFrom (view p) (i + 1)) → agreed (M.d (view p) + 4) w 3 (rowFrom (view p) (i + 1)) ≡ true
   rows-more i hi e f =
       let d = row-part len marks (view p) i hi in
@@ -115,7 +117,7 @@ module _ {len : List ℕ → ℕ} {marks : Marks} {p : List Node} (cells : List 
   pub rows-all : (i : ℕ) → i ≡ view p .rows → rowFrom (view p) i ≡ h
   rows-all i e = ap (rowFrom (view p)) e ∙ row-last len marks (view p) ∙ sym (q .known .numbers .high)
 
-  pub rows-not : (i : ℕ) → i < view p .rows → false ≡ agreed (M.d (view p) + 4) w (rowFrom (view p) i) (rowFrom (view p) (i + 1)) → false ≡ agreed (M.d (view p) + 4) w 3 h
+  rows-not : (i : ℕ) → i < view p .rows → false ≡ agreed (M.d (view p) + 4) w (rowFrom (view p) i) (rowFrom (view p) (i + 1)) → false ≡ agreed (M.d (view p) + 4) w 3 h
   rows-not i hi f = go (agreed (M.d (view p) + 4) w 3 h) refl
     where
       go : (b : Bool) → agreed (M.d (view p) + 4) w 3 h ≡ b → false ≡ agreed (M.d (view p) + 4) w 3 h
@@ -126,3 +128,36 @@ module _ {len : List ℕ → ℕ} {marks : Marks} {p : List Node} (cells : List 
           ∙ in-if (seen cells w h) (markAt len marks (view p)) (M.d (view p) + 4) w (rowFrom (view p) i) (rowFrom (view p) (i + 1))
           (λ x y a b k l.
           in-all (seen cells w h) (markAt len marks (view p)) (M.d (view p) + 4) w 3 h e x y a b (omega (arith, d .from-is, d .low)) (omega (arith, d .on-canvas, q .known .numbers .high)))))
+
+  -- row i, once the arrays hold the cells of the row above it, its own and those of the next one, and where lines go on
+  module _ (i : ℕ) (hi : i < nrows) (above here next on : List ℕ) (at : Band) (above-is : above ≡ cellsIn T C L i nodes) (here-is : here ≡ cellsIn T C L (i + 1) nodes) (next-is : next ≡ cellsIn T C L (i + 2) nodes)
+      (on-is : (j : ℕ) → j < ncols → getD on j 0 ≡ goesIn here next j (ncols - 1 - j)) (at-is : at ≡ bandAt ys nrows h i) where
+    held : RowOf T nodes C L ncols ys nrows h i (rowWith above here next on at)
+    held = record {
+      above-is = above-is;
+      here-is = here-is;
+      next-is = next-is;
+      on-is = on-is;
+      top-is = ap (λ (z : Band). z .top) at-is;
+      end-is = ap (λ (z : Band). z .end) at-is;
+      bend-is = ap (λ (z : Band). z .bend) at-is;
+      middle-is = ap (λ (z : Band). z .middle) at-is;
+    }
+
+    row-in : i < view p .rows
+    row-in = omega (arith, q .known .numbers .rows-are)
+
+    -- what is asked of its columns
+    pub columns-ask : w * h ≤ length cells
+        → ((at .end * w ≤ length cells) × (at .top ≤ at .bend) × (ncols ≤ 256)) × ((j : ℕ) → j < ncols → Apt w (rowWith above here next on at) L G cx xs ncols j)
+    columns-ask f =
+        let g = row-fits i row-in (rowWith above here next on at) held f in
+        ((g .0, g .1, made (q .known) .columns-few), λ j b. apt (q .known) i j row-in (omega (arith, q .known .numbers .columns-are)) (rowWith above here next on at) held)
+
+    -- they agree, and so do the rows up to the next; or they do not, nor do all rows
+    module _ (r : Bool) (e : r ≡ stripsSame marks cells w (rowWith above here next on at) L G cx xs ncols ncols) where
+      pub row-agrees : r ≡ true → agreed (M.d (view p) + 4) w 3 (rowFrom (view p) i) ≡ true → agreed (M.d (view p) + 4) w 3 (rowFrom (view p) (i + 1)) ≡ true
+      row-agrees t f = rows-more i row-in f (sym t ∙ e ∙ band-mark i row-in (rowWith above here next on at) held)
+
+      pub row-differs : r ≡ false → false ≡ agreed (M.d (view p) + 4) w 3 h
+      row-differs t = rows-not i row-in (sym t ∙ e ∙ band-mark i row-in (rowWith above here next on at) held)

@@ -49,17 +49,17 @@ fits-spot s width r a b x n t cell up child on e q h =
     }
 
 module _ (marks : Marks) (cells : List ℕ) (width : ℕ) (r : Row) (lines longest cx xs : List ℕ) (ncols : ℕ) where
-  -- the answer for column j, by the flags before it and what was asked of its node
-  pub strip-is : (j b n t : ℕ) (s : F.Spot) (seen over same : Bool) → seen ≡ seenTo (r .here) j → over ≡ seenTo (r .above) j
-      → n ≡ sizeOf lines (getD (r .here) j 0) → t ≡ sizeOf longest (getD (r .here) j 0)
+  -- the answer for column j, by the flags before it
+  pub strip-is : (j b : ℕ) (s : F.Spot) (seen over same : Bool) → seen ≡ seenTo (r .here) j → over ≡ seenTo (r .above) j
       → s
-      ≡ spotOf (some (r .here) j) ((over || some (r .above) j) && some (r .here) j) ((seen || some (r .here) j) && some (r .next) j) ((seen || some (r .here) j) && some (r .on) j) (r .bend) (getD cx j 0) (r .middle) n t
+      ≡ spotOf (some (r .here) j) ((over || some (r .above) j) && some (r .here) j) ((seen || some (r .here) j) && some (r .next) j) ((seen || some (r .here) j) && some (r .on) j) (r .bend) (getD cx j 0) (r .middle)
+      (sizeOf lines (getD (r .here) j 0)) (sizeOf longest (getD (r .here) j 0))
       → b ≡ endAt xs ncols width j
       → same ≡ alikeIn (λ x y. getD cells (y * width + x) 0) (λ x y. spotMark marks (plain s) (getD cells (y * width + x) 0) x y) (getD xs j 0) b (r .top) (r .end)
       → same ≡ stripSame marks cells width r lines longest cx xs ncols j
   unfolding stripSame seenTo
-  strip-is j b n t s seen over same ee eo en et es eb e =
-      let z : plain s ≡ spotIn r lines longest cx j = ap plain es ∙ rw (ee, eo, en, et) in
+  strip-is j b s seen over same ee eo es eb e =
+      let z : plain s ≡ spotIn r lines longest cx j = ap plain es ∙ rw (ee, eo) in
       e
       ∙ ap (λ (q : Spot). alikeIn (λ x y. getD cells (y * width + x) 0) (λ x y. spotMark marks q (getD cells (y * width + x) 0) x y) (getD xs j 0) b (r .top) (r .end)) z
       ∙ rw eb

@@ -2,4 +2,5 @@
 mod across;
 mod down;
 
+pub use down::Counts;
 pub use down::bands_same;

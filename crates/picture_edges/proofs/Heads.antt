@@ -11,7 +11,7 @@ use Rattle.rules.specs.Measures as M
 use Rattle.rules.specs.Base.{halfUp}
 use Rattle.rules.specs.Lines.{digits}
 use Rattle.rules.specs.Levels.{View}
-use Rattle.rules.specs.Measures.{width, columnOffset, canvasWidth}
+use Rattle.rules.specs.Measures.{width, columnOffset}
 use Rattle.rules.specs.Drawing.{Marks}
 use Rattle.rules.proofs.Digits.{digits-few}
 use Rattle.rules.proofs.Columns.{offset-total}

@@ -9,7 +9,7 @@ use native.Mathlib.Omega.{arith}
 use lib.ListN.{getD}
 use Rattle.rules.specs.Measures as M
 use Rattle.rules.specs.Levels.{View}
-use Rattle.rules.specs.Measures.{height, rowOffset, canvasHeight}
+use Rattle.rules.specs.Measures.{height, rowOffset}
 use Rattle.rules.specs.Drawing.{Marks}
 use Rattle.rules.proofs.Digits.{digits-grow}
 use Rattle.rules.proofs.Columns.{row-offset-total}

@@ -3,7 +3,9 @@ ghost use mathlib.Core.Path.{_≡_};
 ghost use mathlib.Core.List.{List};
 ghost use Prim.Native.Nat.{ℕ, _≤_, _<_, _+_, _*_};
 ghost use lib.ListN.{length, getD};
+ghost use Rattle.rules.specs.Base.{halfUp};
 ghost use Rattle.rules.specs.Levels.{View};
+ghost use Rattle.rules.specs.Lines.{digits};
 ghost use Rattle.rules.specs.Drawing.{Marks};
 ghost use Rattle.rules.specs.Look.{marksIn};
 ghost use Rattle.marks.specs.Alike.{alike, alikeIn};
@@ -27,6 +29,15 @@ fn column_end(xs: &[u32; 256], ncols: u32, j: u32, width: u32) -> u32
     width
 }
 
+// Where the index of column j begins: half of its digits stand before the column's centre.
+fn label_start(cx: &[u32; 256], j: u32) -> usize
+    requires { ⌜ (j < 256) × (halfUp (length (digits j)) ≤ getD (now cx) j 0) ⌝ }
+    ensures { λ r. ⌜ r ≡ labelAt (now (cx .entry)) j ⌝ }
+{
+    let k = text::wide(j);
+    text::wide(cx[k] - tree_view::half_up(text::digits(j)))
+}
+
 // Row 0 in column j holds its index.
 fn column_same(
     cells: &[u32],
@@ -42,7 +53,7 @@ fn column_same(
 {
     let k = text::wide(j);
     let from = text::wide(xs[k]);
-    let at = text::wide(cx[k] - tree_view::half_up(text::digits(j)));
+    let at = label_start(cx, j);
     let to = text::wide(column_end(xs, ncols, j, width));
     label_same(cells, 0, from, to, at, j)
 }

@@ -2,7 +2,7 @@
 -- Each law splits the row where its marks change.
 use mathlib.Core.Path.{_≡_, refl, sym, _∙_}
 use mathlib.Core.List.{List}
-use mathlib.Core.Bool.{Bool, true, false, _&&_}
+use mathlib.Core.Bool.{Bool, true, false, _&&_, and-assoc}
 use Prim.Native.Nat.{ℕ, suc, zero, _+_, _-_, _≤_, _<_}
 use native.Mathlib.Omega.{arith}
 use lib.Dec.{eqb}
@@ -197,18 +197,18 @@ module _ (cells : List ℕ) (n : ℕ) where
 
     pub edge-cells : (e : Edge)
         → alike (rowIn cells n) (edgeMark e (p .left) (p .line) (p .right)) (p .left) (p .right + 1)
-        ≡ (eqb (getD cells (n + p .left) 0) (e .left)
-        && (eqb (getD cells (n + p .line) 0) (e .line)
-        && (eqb (getD cells (n + p .line + 1) 0) (e .next)
-        && (eqb (getD cells (n + p .right) 0) (e .right)
+        ≡ ((eqb (getD cells (n + p .left) 0) (e .left)
+        && eqb (getD cells (n + p .line) 0) (e .line)
+        && eqb (getD cells (n + p .line + 1) 0) (e .next)
+        && eqb (getD cells (n + p .right) 0) (e .right))
         && (alike (λ k. getD cells k 0) (λ _. e .between) (n + p .left + 1) (n + p .line)
-        && alike (λ k. getD cells k 0) (λ _. e .between) (n + p .line + 2) (n + p .right))))))
+        && alike (λ k. getD cells k 0) (λ _. e .between) (n + p .line + 2) (n + p .right)))
     edge-cells e =
         let one : n + (p .line + 1) ≡ n + p .line + 1 = omega arith in
         let two : n + (p .line + 2) ≡ n + p .line + 2 = omega arith in
         let more : n + (p .left + 1) ≡ n + p .left + 1 = omega arith in
         edge-row e (p .left) (p .line) (p .right) (o .line-in) (o .line-out) (rowIn cells n)
-        ∙ rw (run-cells (e .between) (p .left + 1) (p .line), run-cells (e .between) (p .line + 2) (p .right), one, two, more)
+        ∙ rw (run-cells (e .between) (p .left + 1) (p .line), run-cells (e .between) (p .line + 2) (p .right), one, two, more) (simp and-assoc)
 
     pub text-cells : (side : ℕ) → alike (rowIn cells n) (λ x. textMark side (p .left) (p .right) (rowIn cells n x) x) (p .left) (p .right + 1)
         ≡ (eqb (getD cells (n + p .left) 0) side

@@ -34,22 +34,73 @@ fn span_of(s: Spot, a: u32, b: u32) -> Span
     }
 }
 
+// The rows from the band's top to the top border of the box that stands there.
+fn head_same(cells: &[u32], width: u32, g: Glyphs, s: Spot, a: u32, b: u32, top: u32) -> bool
+    requires { ⌜ (s .cell ≡ true) × Ordered (spanOf s a b) × Stands s top (s .bottom + 1) ⌝ }
+    requires { ⌜ (b ≤ width) × ((s .bottom + 1) * width ≤ length (now cells)) ⌝ }
+    ensures { λ r. ⌜ r ≡ alikeIn (markIn (now (cells .entry)) width) (spotIn (marksIn g) (now (cells .entry)) width s) a b top (s .top + 1) ⌝ }
+{
+    let p = span_of(s, a, b);
+    let w = width as usize;
+    let first = s.top as usize;
+    if wires_same(cells, w, p, straight_wire(g, s.up), top as usize, first) {
+        return edge_same(cells, first * w, p, top_edge(g, s.up));
+    }
+    false
+}
+
+// Its rows under the top border, to the bottom one.
+fn body_same(cells: &[u32], width: u32, g: Glyphs, s: Spot, a: u32, b: u32) -> bool
+    requires { ⌜ (s .cell ≡ true) × Ordered (spanOf s a b) × Stands s (s .top) (s .bottom + 1) ⌝ }
+    requires { ⌜ (b ≤ width) × ((s .bottom + 1) * width ≤ length (now cells)) ⌝ }
+    ensures { λ r. ⌜ r ≡ alikeIn (markIn (now (cells .entry)) width) (spotIn (marksIn g) (now (cells .entry)) width s) a b (s .top + 1) (s .bottom + 1) ⌝ }
+{
+    let p = span_of(s, a, b);
+    let w = width as usize;
+    let first = s.top as usize;
+    let last = s.bottom as usize;
+    if texts_same(cells, w, p, g.vertical, first + 1, last) {
+        return edge_same(cells, last * w, p, bottom_edge(g, s.child, s.on));
+    }
+    false
+}
+
 // The rows from the band's top to the bottom border of the box that stands there.
 fn box_same(cells: &[u32], width: u32, g: Glyphs, s: Spot, a: u32, b: u32, top: u32) -> bool
     requires { ⌜ (s .cell ≡ true) × Ordered (spanOf s a b) × Stands s top (s .bottom + 1) ⌝ }
     requires { ⌜ (b ≤ width) × ((s .bottom + 1) * width ≤ length (now cells)) ⌝ }
     ensures { λ r. ⌜ r ≡ alikeIn (markIn (now (cells .entry)) width) (spotIn (marksIn g) (now (cells .entry)) width s) a b top (s .bottom + 1) ⌝ }
 {
+    if head_same(cells, width, g, s, a, b, top) {
+        return body_same(cells, width, g, s, a, b);
+    }
+    false
+}
+
+// The row of the bend and those below it, before `end`.
+fn bend_same(cells: &[u32], width: u32, g: Glyphs, s: Spot, a: u32, b: u32, end: u32) -> bool
+    requires { ⌜ Ordered (spanOf s a b) × (s .bend < end) × (b ≤ width) × (end * width ≤ length (now cells)) ⌝ }
+    ensures { λ r. ⌜ r ≡ alikeIn (markIn (now (cells .entry)) width) (spotIn (marksIn g) (now (cells .entry)) width s) a b (s .bend) end ⌝ }
+{
     let p = span_of(s, a, b);
     let w = width as usize;
-    let first = s.top as usize;
-    let last = s.bottom as usize;
-    if wires_same(cells, w, p, straight_wire(g, s.up), top as usize, first) {
-        if edge_same(cells, first * w, p, top_edge(g, s.up)) {
-            if texts_same(cells, w, p, g.vertical, first + 1, last) {
-                return edge_same(cells, last * w, p, bottom_edge(g, s.child, s.on));
-            }
-        }
+    let bend = s.bend as usize;
+    if wires_same(
+        cells,
+        w,
+        p,
+        bend_wire(g, s.cell, s.child, s.on),
+        bend,
+        bend + 1,
+    ) {
+        return wires_same(
+            cells,
+            w,
+            p,
+            straight_wire(g, s.child),
+            bend + 1,
+            end as usize,
+        );
     }
     false
 }
@@ -77,16 +128,7 @@ fn gap_same(
     let foot = foot_wire(g, s.cell, s.child, s.on);
     if bend < to {
         if wires_same(cells, w, p, foot, y, bend) {
-            if wires_same(
-                cells,
-                w,
-                p,
-                bend_wire(g, s.cell, s.child, s.on),
-                bend,
-                bend + 1,
-            ) {
-                return wires_same(cells, w, p, straight_wire(g, s.child), bend + 1, to);
-            }
+            return bend_same(cells, width, g, s, a, b, end);
         }
         return false;
     }

@@ -2,7 +2,8 @@
 ghost use mathlib.Core.Path.{_≡_};
 ghost use mathlib.Core.Bool.{_&&_};
 ghost use Prim.Native.Nat.{_+_, _*_, _≤_};
-ghost use lib.ListN.{length};
+ghost use lib.Dec.{eqb};
+ghost use lib.ListN.{length, getD};
 ghost use Rattle.marks.specs.Alike.{alike, alikeIn};
 ghost use Rattle.picture_field.specs.Fits.{markIn};
 ghost use Rattle.row_shapes.specs.Rows.{edgeMark, textMark};
@@ -24,28 +25,33 @@ fn beside_same(cells: &[u32], base: usize, p: Span) -> bool
     false
 }
 
+// A border's corners, and its two marks at the line. (No branch between them, as in `four_same`.)
+fn corners_same(cells: &[u32], base: usize, p: Span, e: Edge) -> bool
+    requires { ⌜ Ordered p × (base + p .b ≤ length (now cells)) ⌝ }
+    ensures { λ r. ⌜ r ≡ (eqb (getD (now (cells .entry)) (base + p .left) 0) (e .left)
+        && eqb (getD (now (cells .entry)) (base + p .line) 0) (e .line)
+        && eqb (getD (now (cells .entry)) (base + p .line + 1) 0) (e .next)
+        && eqb (getD (now (cells .entry)) (base + p .right) 0) (e .right)) ⌝ }
+{
+    let left = base + p.left;
+    let line = base + p.line;
+    let right = base + p.right;
+    (cells[left] == e.left)
+        & (cells[line] == e.line)
+        & (cells[line + 1] == e.next)
+        & (cells[right] == e.right)
+}
+
 // A border from its left corner to its right one.
 fn border_same(cells: &[u32], base: usize, p: Span, e: Edge) -> bool
     requires { ⌜ Ordered p × (base + p .b ≤ length (now cells)) ⌝ }
     ensures { λ r. ⌜ r ≡ alike (rowIn (now (cells .entry)) base) (edgeMark e (p .left) (p .line) (p .right)) (p .left) (p .right + 1) ⌝ }
 {
-    let left = base + p.left;
-    let line = base + p.line;
-    let right = base + p.right;
-    if cells[left] != e.left {
-        return false;
-    }
-    if cells[line] != e.line {
-        return false;
-    }
-    if cells[line + 1] != e.next {
-        return false;
-    }
-    if cells[right] != e.right {
-        return false;
-    }
-    if run_same(cells, left + 1, line, e.between) {
-        return run_same(cells, line + 2, right, e.between);
+    if corners_same(cells, base, p, e) {
+        let line = base + p.line;
+        if run_same(cells, base + p.left + 1, line, e.between) {
+            return run_same(cells, line + 2, base + p.right, e.between);
+        }
     }
     false
 }

@@ -1,7 +1,7 @@
 // One cell of the picture is added to the nodes.
 use picture_sight::Block;
 use picture_sight::Label;
-use rules::Glyphs;
+use picture_sight::Sight;
 use rules::Measure;
 ghost use mathlib.Core.Path.{_≡_};
 ghost use mathlib.Core.Bool.{true, false};
@@ -33,10 +33,10 @@ fn longest_of(measure: Measure, b: Block) -> usize
 }
 
 // The bytes of a box's title; 0 where no plan has such a box in a column with the centre cx.
-fn title_size(cells: &[u32], width: u32, height: u32, measure: Measure, l: Label, cx: u32) -> usize
-    requires { ⌜ (width * height ≤ length (now cells)) × (l .first + l .cells ≤ 2097152) × (l .top ≤ 1048576) × (1 ≤ l .lines) ⌝ }
-    requires { ⌜ ((k : ℕ) → k < width * height → Held (getD (now cells) k 0)) ⌝ }
-    ensures { λ r. ⌜ r ≡ titleSize (lenOf measure) (seen (now (cells .entry)) width height) cx (l .first) (l .top + 1) (l .cells) (l .lines) ⌝ }
+fn title_size(cells: &[u32], sight: Sight, l: Label, cx: u32) -> usize
+    requires { ⌜ (sight .width * sight .height ≤ length (now cells)) × (l .first + l .cells ≤ 2097152) × (l .top ≤ 1048576) × (1 ≤ l .lines) ⌝ }
+    requires { ⌜ ((k : ℕ) → k < sight .width * sight .height → Held (getD (now cells) k 0)) ⌝ }
+    ensures { λ r. ⌜ r ≡ titleSize (lenOf (sight .measure)) (seen (now (cells .entry)) (sight .width) (sight .height)) cx (l .first) (l .top + 1) (l .cells) (l .lines) ⌝ }
 {
     if 1025 < l.lines {
         return 0;
@@ -44,10 +44,19 @@ fn title_size(cells: &[u32], width: u32, height: u32, measure: Measure, l: Label
     if l.first + tree_view::half_up(l.cells) != cx {
         return 0;
     }
-    let b = picture_sight::block_sizes(cells, width, height, l.first, l.top + 1, l.cells, l.lines);
+    let b = picture_sight::block_sizes(
+        cells,
+        sight.width,
+        sight.height,
+        l.first,
+        l.top + 1,
+        l.cells,
+        l.lines,
+    );
     if 1024 < b.bytes {
         return 0;
     }
+    let measure = sight.measure;
     if longest_of(measure, b) != text::wide(l.cells) {
         return 0;
     }
@@ -96,10 +105,7 @@ fn store(
 // Adds the cell of row i and column j, if there is one.
 pub(crate) fn add_at(
     cells: &[u32],
-    width: u32,
-    height: u32,
-    measure: Measure,
-    g: Glyphs,
+    sight: Sight,
     cx: &[u32; 257],
     j: u32,
     band: &[u32; 33],
@@ -111,16 +117,24 @@ pub(crate) fn add_at(
     lines: &mut [u32; 256],
     longest: &mut [u32; 256],
 ) -> Collected
-    requires { ⌜ Known (marksIn g) (now cells) width height (now cx) (now band) (now cy)
-        × (j < outside (seen (now cells) width height) width height .nc) × (i < outside (seen (now cells) width height) width height .nr) ⌝ }
+    requires { ⌜ Known (marksIn (sight .marks)) (now cells) (sight .width) (sight .height) (now cx) (now band) (now cy)
+        × (j < outside (seen (now cells) (sight .width) (sight .height)) (sight .width) (sight .height) .nc) × (i < outside (seen (now cells) (sight .width) (sight .height)) (sight .width) (sight .height) .nr) ⌝ }
     requires { ⌜ (c .bad ≡ false)
-        × Partly (lenOf measure) (now cells) width height (cellsBefore (marksIn g) (now cells) width height j i) (c .nodes) (c .bytes) (now table) (now middle) (now lines) (now longest) ⌝ }
-    ensures { λ r. ⌜ Answered (lenOf measure) (marksIn g) (now (cells .entry)) width height (cellsBefore (marksIn g) (now (cells .entry)) width height j (i + 1))
+        × Partly (lenOf (sight .measure)) (now cells) (sight .width) (sight .height) (cellsBefore (marksIn (sight .marks)) (now cells) (sight .width) (sight .height) j i) (c .nodes) (c .bytes) (now table) (now middle) (now lines) (now longest) ⌝ }
+    ensures { λ r. ⌜ Answered (lenOf (sight .measure)) (marksIn (sight .marks)) (now (cells .entry)) (sight .width) (sight .height) (cellsBefore (marksIn (sight .marks)) (now (cells .entry)) (sight .width) (sight .height) j (i + 1))
         (r .bad) (r .nodes) (r .bytes) (now (table .exit)) (now (middle .exit)) (now (lines .exit)) (now (longest .exit)) ⌝ }
 {
     let row = text::wide(i);
     let x = cx[text::wide(j)];
-    let l = picture_sight::label_at(cells, width, height, g, band[row], cy[row], x);
+    let l = picture_sight::label_at(
+        cells,
+        sight.width,
+        sight.height,
+        sight.marks,
+        band[row],
+        cy[row],
+        x,
+    );
     if l.lines == 0 {
         return c;
     }
@@ -128,7 +142,7 @@ pub(crate) fn add_at(
     if 255 < k {
         return none();
     }
-    let size = title_size(cells, width, height, measure, l, x);
+    let size = title_size(cells, sight, l, x);
     if size == 0 {
         return none();
     }

@@ -1,8 +1,7 @@
 // The cells of the picture, column by column.
 use crate::add::Collected;
 use crate::add::add_at;
-use rules::Glyphs;
-use rules::Measure;
+use picture_sight::Sight;
 ghost use mathlib.Core.Path.{_≡_};
 ghost use mathlib.Core.Bool.{true, false};
 ghost use Prim.Native.Nat.{_<_, _+_};
@@ -17,10 +16,7 @@ ghost use Rattle.picture_gather.specs.Partly.{cellsBefore, Partly, Answe
 // Adds the cells of column j, from the top down.
 fn gather_column(
     cells: &[u32],
-    width: u32,
-    height: u32,
-    measure: Measure,
-    g: Glyphs,
+    sight: Sight,
     cx: &[u32; 257],
     j: u32,
     band: &[u32; 33],
@@ -32,11 +28,11 @@ fn gather_column(
     lines: &mut [u32; 256],
     longest: &mut [u32; 256],
 ) -> Collected
-    requires { ⌜ Known (marksIn g) (now cells) width height (now cx) (now band) (now cy)
-        × (j < outside (seen (now cells) width height) width height .nc) × (nrows ≡ outside (seen (now cells) width height) width height .nr) ⌝ }
+    requires { ⌜ Known (marksIn (sight .marks)) (now cells) (sight .width) (sight .height) (now cx) (now band) (now cy)
+        × (j < outside (seen (now cells) (sight .width) (sight .height)) (sight .width) (sight .height) .nc) × (nrows ≡ outside (seen (now cells) (sight .width) (sight .height)) (sight .width) (sight .height) .nr) ⌝ }
     requires { ⌜ (before .bad ≡ false)
-        × Partly (lenOf measure) (now cells) width height (cellsBefore (marksIn g) (now cells) width height j 0) (before .nodes) (before .bytes) (now table) (now middle) (now lines) (now longest) ⌝ }
-    ensures { λ r. ⌜ Answered (lenOf measure) (marksIn g) (now (cells .entry)) width height (cellsBefore (marksIn g) (now (cells .entry)) width height (j + 1) 0)
+        × Partly (lenOf (sight .measure)) (now cells) (sight .width) (sight .height) (cellsBefore (marksIn (sight .marks)) (now cells) (sight .width) (sight .height) j 0) (before .nodes) (before .bytes) (now table) (now middle) (now lines) (now longest) ⌝ }
+    ensures { λ r. ⌜ Answered (lenOf (sight .measure)) (marksIn (sight .marks)) (now (cells .entry)) (sight .width) (sight .height) (cellsBefore (marksIn (sight .marks)) (now (cells .entry)) (sight .width) (sight .height) (j + 1) 0)
         (r .bad) (r .nodes) (r .bytes) (now (table .exit)) (now (middle .exit)) (now (lines .exit)) (now (longest .exit)) ⌝ }
 {
     let mut c = before;
@@ -44,10 +40,7 @@ fn gather_column(
     while i < nrows {
         c = add_at(
             cells,
-            width,
-            height,
-            measure,
-            g,
+            sight,
             cx,
             j,
             band,
@@ -71,10 +64,7 @@ fn gather_column(
 // one's middle, lines and longest line by the measure.
 pub fn gather(
     cells: &[u32],
-    width: u32,
-    height: u32,
-    measure: Measure,
-    g: Glyphs,
+    sight: Sight,
     cx: &[u32; 257],
     ncols: u32,
     band: &[u32; 33],
@@ -85,11 +75,11 @@ pub fn gather(
     lines: &mut [u32; 256],
     longest: &mut [u32; 256],
 ) -> Collected
-    requires { ⌜ Known (marksIn g) (now cells) width height (now cx) (now band) (now cy)
-        × (ncols ≡ outside (seen (now cells) width height) width height .nc) × (nrows ≡ outside (seen (now cells) width height) width height .nr) ⌝ }
+    requires { ⌜ Known (marksIn (sight .marks)) (now cells) (sight .width) (sight .height) (now cx) (now band) (now cy)
+        × (ncols ≡ outside (seen (now cells) (sight .width) (sight .height)) (sight .width) (sight .height) .nc) × (nrows ≡ outside (seen (now cells) (sight .width) (sight .height)) (sight .width) (sight .height) .nr) ⌝ }
     requires { ⌜ (now table ≡ replicate 768 0) × (now middle ≡ replicate 256 0) × (now lines ≡ replicate 256 0) × (now longest ≡ replicate 256 0) ⌝ }
-    ensures { λ r. ⌜ (r .bad ≡ false → Gathered (lenOf measure) (marksIn g) (now (cells .entry)) width height (r .nodes) (r .bytes) (now (table .exit)) (now (middle .exit)) (now (lines .exit)) (now (longest .exit)))
-        × (r .bad ≡ true → Misfit (lenOf measure) (marksIn g) (now (cells .entry)) width height) ⌝ }
+    ensures { λ r. ⌜ (r .bad ≡ false → Gathered (lenOf (sight .measure)) (marksIn (sight .marks)) (now (cells .entry)) (sight .width) (sight .height) (r .nodes) (r .bytes) (now (table .exit)) (now (middle .exit)) (now (lines .exit)) (now (longest .exit)))
+        × (r .bad ≡ true → Misfit (lenOf (sight .measure)) (marksIn (sight .marks)) (now (cells .entry)) (sight .width) (sight .height)) ⌝ }
 {
     let mut c = Collected {
         nodes: 0,
@@ -100,10 +90,7 @@ pub fn gather(
     while j < ncols {
         c = gather_column(
             cells,
-            width,
-            height,
-            measure,
-            g,
+            sight,
             cx,
             j,
             band,

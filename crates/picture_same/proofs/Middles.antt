@@ -2,7 +2,7 @@
 -- not, the picture is not the plan's drawing.
 use mathlib.Core.Path.{_≡_, ap, sym, _∙_}
 use mathlib.Core.List.{List}
-use mathlib.Core.Bool.{true, false, false≢true}
+use mathlib.Core.Bool.{Bool, true, false, _&&_, false≢true}
 use Prim.Native.Nat.{ℕ, _<_}
 use native.Mathlib.Omega.{arith}
 use lib.ListN.{length, getD}
@@ -11,6 +11,7 @@ use Rattle.rules.specs.Plan.{depthAt}
 use Rattle.rules.specs.Drawing.{Marks}
 use Rattle.rules.specs.Levels.{columnAt, view}
 use Rattle.rules.proofs.Bounds.{column-below, row-below}
+use Rattle.rules.proofs.CharsBack.{both}
 use Rattle.marks.specs.Alike.{alike}
 use Rattle.marks.specs.Numbers.{Numbers, Lettered}
 use Rattle.marks.proofs.Alike.{alike-all, alike-if}
@@ -36,13 +37,19 @@ module _ {len : List ℕ → ℕ} {marks : Marks} {cells : List ℕ} {w h nodes 
   row-centre : (i : ℕ) → i < nrows → getD cy i 0 ≡ M.cy (view (planSeen marks cells w h)) i
   row-centre i l = n .cy-is i (omega (arith, n .rows-are))
 
-  pub other-middles : alike (λ k. getD middle k 0) (middleAt column cx) 0 nodes ≡ false → Drawn len marks cells w h → ⊥
-  other-middles e q =
-      false≢true (sym e ∙ alike-if (λ k. getD middle k 0) (middleAt column cx) 0 nodes (λ k a l. middle-drawn v q k l ∙ sym (column-centre k l)))
+  -- the answer for both
+  abbrev pub centres : Bool
+  centres = alike (λ k. getD middle k 0) (middleAt column cx) 0 nodes && alike (λ i. getD rows i 0) (λ i. getD cy i 0) 0 nrows
 
-  pub other-rows : alike (λ i. getD rows i 0) (λ i. getD cy i 0) 0 nrows ≡ false → Drawn len marks cells w h → ⊥
-  other-rows e q =
-      false≢true (sym e ∙ alike-if (λ i. getD rows i 0) (λ i. getD cy i 0) 0 nrows (λ i a l. row-drawn v q i (omega (arith, n .rows-are)) ∙ sym (row-centre i l)))
+  pub other-centres : (r : Bool) → r ≡ centres → r ≡ false → Drawn len marks cells w h → ⊥
+  other-centres r e f q =
+      false≢true
+      (sym f
+      ∙ e
+      ∙ rw (
+        alike-if (λ k. getD middle k 0) (middleAt column cx) 0 nodes (λ k a l. middle-drawn v q k l ∙ sym (column-centre k l)),
+        alike-if (λ i. getD rows i 0) (λ i. getD cy i 0) 0 nrows (λ i a l. row-drawn v q i (omega (arith, n .rows-are)) ∙ sym (row-centre i l)),
+      ))
 
   letters-stand : alike (λ k. getD middle k 0) (middleAt column cx) 0 nodes ≡ true → alike (λ i. getD rows i 0) (λ i. getD cy i 0) 0 nrows ≡ true
       → Lettered len (view (planSeen marks cells w h)) (seen cells w h)
@@ -57,15 +64,15 @@ module _ {len : List ℕ → ℕ} {marks : Marks} {cells : List ℕ} {w h nodes 
       ∙ row-centre (depthAt p k) i))
 
   -- all that is asked before the bands are compared
-  pub ready : alike (λ k. getD middle k 0) (middleAt column cx) 0 nodes ≡ true → alike (λ i. getD rows i 0) (λ i. getD cy i 0) 0 nrows ≡ true
-      → Ready len marks (planSeen marks cells w h) (seen cells w h) w h table nodes column lines most cx xs ncols cy ys nrows
-  ready e f = record {
+  pub ready : (r : Bool) → r ≡ centres → r ≡ true → Ready len marks (planSeen marks cells w h) (seen cells w h) w h table nodes column lines most cx xs ncols ys nrows
+  ready r e t = record {
     known =
         record {
           lawful = v .lawful;
           short = v .short;
           drawable = drawable v;
           small = limits v;
+          cy = cy;
           numbers = n;
           counted = v .gathered .counted;
           room = omega (arith, table-long v);
@@ -74,5 +81,5 @@ module _ {len : List ℕ → ℕ} {marks : Marks} {cells : List ℕ} {w h nodes 
           lines-are = lines-of v;
           longest-are = longest-of v;
         };
-    lettered = letters-stand e f;
+    lettered = let f = both (alike (λ k. getD middle k 0) (middleAt column cx) 0 nodes) (alike (λ i. getD rows i 0) (λ i. getD cy i 0) 0 nrows) (sym e ∙ t) in letters-stand (f .0) (f .1);
   }

@@ -2,7 +2,7 @@
 -- The table's plan, whatever its title bytes, has the depths of the plan that is seen; the rest are the laws of `tree_view`.
 use mathlib.Core.Path.{_≡_, ap, sym, _∙_}
 use mathlib.Core.List.{List, []}
-use mathlib.Core.Bool.{Bool, _&&_}
+use mathlib.Core.Bool.{Bool, true, false, _&&_}
 use Prim.Native.Nat.{ℕ, _+_, _*_, _-_, _^_, _≤_, _<_}
 use native.Mathlib.Omega.{arith}
 use lib.Dec.{eqb}
@@ -17,6 +17,7 @@ use Rattle.rules.proofs.Bounds.{column-below, columns-few, rows-some}
 use Rattle.levels.specs.Filled.{filled}
 use Rattle.levels.proofs.Plans.{column-bytes, columns-bytes, rows-bytes}
 use Rattle.marks.specs.Numbers.{Numbers}
+use Rattle.picture_sight.specs.Seen.{seen}
 use Rattle.picture_sight.specs.Plan.{planSeen}
 use Rattle.tree_view.specs.declared.heights.Rows.{Rows}
 use Rattle.tree_view.specs.Measured.{linesAt, longestAt}
@@ -26,9 +27,10 @@ use Rattle.tree_view.proofs.Laid.{at-whole}
 use Rattle.tree_view.proofs.Limits.{width-ge, columns-le, rows-le, d-le, cy-le, canvas-width-le, canvas-height-le}
 use Rattle.tree_view.proofs.Nodes.{longest-at-le, lines-at-le}
 use Rattle.tree_view.proofs.Ruled.{view-columns, view-rows, columns-ruled, rows-ruled, column-offset-at, column-width-at, columns-end, cx-at, row-offset-at, rows-end, cy-at}
-use Rattle.picture_same.specs.Given.{Given}
+use Rattle.picture_same.specs.Given.{Given, Drawn, Tells}
 use Rattle.levels.proofs.Tables.{length-table, depth-table, plan-table}
-use Rattle.picture_same.proofs.Known.{limits}
+use Rattle.picture_same.proofs.Known.{drawable, limits}
+use Rattle.picture_same.proofs.Told.{right-size, other-size}
 
 module _ {len : List ℕ → ℕ} {marks : Marks} {cells : List ℕ} {w h nodes : ℕ} {rows table middle lines most : List ℕ} (v : Given len marks cells w h rows table nodes middle lines most) where
   the-table : table ≡ tableOf (planSeen marks cells w h)
@@ -164,7 +166,7 @@ module _ {len : List ℕ → ℕ} {marks : Marks} {cells : List ℕ} {w h nodes 
           ),
         )
 
-    pub sizes-are : (r : Bool) → r ≡ (eqb w (sumAt xs ws (ncols - 1) - 1) && eqb h (sumAt (hs .offset) (hs .height) (nrows - 1)))
+    sizes-are : (r : Bool) → r ≡ (eqb w (sumAt xs ws (ncols - 1) - 1) && eqb h (sumAt (hs .offset) (hs .height) (nrows - 1)))
         → r ≡ (eqb w (canvasWidth len (view (planSeen marks cells w h))) && eqb h (canvasHeight (view (planSeen marks cells w h))))
     sizes-are r e =
         let z : sumAt xs ws (ncols - 1) - 1 ≡ canvasWidth len (view (planSeen marks cells w h)) = omega (arith, width-is) in
@@ -181,7 +183,7 @@ module _ {len : List ℕ → ℕ} {marks : Marks} {cells : List ℕ} {w h nodes 
           cy-le p (limits v) i (omega (arith, rows-fit nrows m)),
         )
 
-    pub numbers : (cy : List ℕ) → cy ≡ filled (sumAt (hs .offset) (hs .center)) 0 nrows (replicate 32 0)
+    numbers : (cy : List ℕ) → cy ≡ filled (sumAt (hs .offset) (hs .center)) 0 nrows (replicate 32 0)
         → w ≡ canvasWidth len (view (planSeen marks cells w h)) → h ≡ canvasHeight (view (planSeen marks cells w h))
         → Numbers len (view (planSeen marks cells w h)) w h ncols nrows cx xs cy (hs .offset)
     numbers cy b wide high =
@@ -200,3 +202,14 @@ module _ {len : List ℕ → ℕ} {marks : Marks} {cells : List ℕ} {w h nodes 
               ∙ cy-at (view p) hs l short j i;
           y-is = row-offset-at (view p) hs l short;
         }
+
+    -- the size is right, and then all numbers are the plan's; or it refuses the drawing
+    module _ (r : Bool) (e : r ≡ (eqb w (sumAt xs ws (ncols - 1) - 1) && eqb h (sumAt (hs .offset) (hs .height) (nrows - 1)))) where
+      pub sized-numbers : r ≡ true → (cy : List ℕ) → cy ≡ filled (sumAt (hs .offset) (hs .center)) 0 nrows (replicate 32 0)
+          → Numbers len (view (planSeen marks cells w h)) w h ncols nrows cx xs cy (hs .offset)
+      sized-numbers f cy b =
+          let z = right-size len marks (planSeen marks cells w h) (drawable v) (seen cells w h) w h r (sizes-are r e) f in
+          numbers cy b (z .0) (z .1)
+
+      pub sized-not : r ≡ false → Tells false (Drawn len marks cells w h)
+      sized-not f = other-size len marks (planSeen marks cells w h) (drawable v) (seen cells w h) w h r (sizes-are r e) f

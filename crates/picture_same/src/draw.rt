@@ -1,6 +1,6 @@
 // The canvas compared with the drawing of the plan that was gathered.
 ghost use mathlib.Core.Path.{_≡_};
-ghost use mathlib.Core.Bool.{false, _&&_};
+ghost use mathlib.Core.Bool.{_&&_};
 ghost use Prim.Native.Nat.{ℕ, _*_, _-_, _≤_, _<_, _^_};
 ghost use lib.Dec.{eqb};
 ghost use lib.ListN.{length, getD};
@@ -10,11 +10,12 @@ ghost use Rattle.marks.specs.Numbers.{Numbers};
 ghost use Rattle.picture_sight.specs.Seen.{seen};
 ghost use Rattle.picture_sight.specs.Plan.{planSeen};
 ghost use Rattle.tree_view.specs.Sizes.{sumAt};
+ghost use Rattle.tree_view.specs.Ruled.{RuledColumns};
 ghost use Rattle.picture_bands.specs.Ready.{Ready};
 ghost use Rattle.picture_same.specs.Given.{Drawn, Given, Tells};
 use crate::level;
-use rules::Glyphs;
-use rules::Measure;
+use picture_bands::Counts;
+use picture_sight::Sight;
 
 // The canvas has the size of a drawing of these columns and rows.
 fn sized<'a, 'b>(
@@ -41,106 +42,99 @@ fn sized<'a, 'b>(
 // Each point of the canvas is as the plan's drawing has it.
 fn compared(
     cells: &[u32],
-    width: u32,
-    height: u32,
-    measure: Measure,
-    g: Glyphs,
+    sight: Sight,
+    n: Counts,
     table: &[u32],
-    nodes: usize,
     column: &[u32; 256],
     lines: &[u32; 256],
     longest: &[u32; 256],
     cx: &[u32; 256],
     xs: &[u32; 256],
-    ncols: u32,
     cy: &[u32; 32],
     ys: &[u32; 32],
-    nrows: u32,
 ) -> bool
-    requires { ⌜ (width * height ≤ length (now cells)) × (width * height ≤ 1048576) ⌝ }
-    requires { ⌜ Ready (lenOf measure) (marksIn g) (planSeen (marksIn g) (now cells) width height) (seen (now cells) width height) width height (now table) nodes (now column) (now lines) (now longest) (now cx) (now xs) ncols (now cy) (now ys) nrows ⌝ }
-    ensures { λ r. ⌜ Tells r (Drawn (lenOf measure) (marksIn g) (now (cells .entry)) width height) ⌝ }
+    requires { ⌜ (sight .width * sight .height ≤ length (now cells)) × (sight .width * sight .height ≤ 1048576) ⌝ }
+    requires { ⌜ Ready (lenOf (sight .measure)) (marksIn (sight .marks)) (planSeen (marksIn (sight .marks)) (now cells) (sight .width) (sight .height)) (seen (now cells) (sight .width) (sight .height)) (sight .width) (sight .height) (now table) (n .nodes) (now column) (now lines) (now longest) (now cx) (now xs) (n .ncols) (now ys) (n .nrows)
+        × Numbers (lenOf (sight .measure)) (view (planSeen (marksIn (sight .marks)) (now cells) (sight .width) (sight .height))) (sight .width) (sight .height) (n .ncols) (n .nrows) (now cx) (now xs) (now cy) (now ys) ⌝ }
+    ensures { λ r. ⌜ Tells r (Drawn (lenOf (sight .measure)) (marksIn (sight .marks)) (now (cells .entry)) (sight .width) (sight .height)) ⌝ }
 {
+    let measure = sight.measure;
     if picture_edges::edges_same(
         cells,
-        width,
-        height,
+        sight.width,
+        sight.height,
         measure,
-        g,
+        sight.marks,
         cx,
         xs,
-        ncols,
+        n.ncols,
         cy,
         ys,
-        nrows,
+        n.nrows,
     ) {
         return picture_bands::bands_same(
             cells,
-            width,
-            height,
-            measure,
-            g,
+            sight,
+            n,
             table,
-            nodes,
             column,
             lines,
             longest,
             cx,
             xs,
-            ncols,
-            cy,
             ys,
-            nrows,
         );
     }
     false
 }
 
-// A canvas of the plan's size, whose columns and rows are placed, is the plan's drawing.
+// The canvas is the drawing of the plan that was gathered, whose columns are laid: its rows are laid too, and all is compared.
 fn matches<'a>(
     cells: &[u32],
-    width: u32,
-    height: u32,
-    measure: Measure,
-    g: Glyphs,
+    sight: Sight,
+    n: Counts,
     centers: &[u32; 33],
     table: &[u32],
-    nodes: usize,
     column: &[u32; 256],
     middle: &[u32; 256],
     lines: &[u32; 256],
     longest: &[u32; 256],
     cx: &'a [u32; 256],
     xs: &'a [u32; 256],
-    ncols: u32,
-    cy: &[u32; 32],
-    ys: &[u32; 32],
-    nrows: u32,
+    ws: &'a [u32; 256],
 ) -> bool
-    requires { ⌜ Given (lenOf measure) (marksIn g) (now cells) width height (now centers) (now table) nodes (now middle) (now lines) (now longest) ⌝ }
-    requires { ⌜ ((k : ℕ) → k < nodes → getD (now column) k 0 ≡ columnAt (planSeen (marksIn g) (now cells) width height) k) ⌝ }
-    requires { ⌜ Numbers (lenOf measure) (view (planSeen (marksIn g) (now cells) width height)) width height ncols nrows (now cx) (now xs) (now cy) (now ys) ⌝ }
-    ensures { λ r. ⌜ Tells r (Drawn (lenOf measure) (marksIn g) (now (cells .entry)) width height) ⌝ }
+    requires { ⌜ Given (lenOf (sight .measure)) (marksIn (sight .marks)) (now cells) (sight .width) (sight .height) (now centers) (now table) (n .nodes) (now middle) (now lines) (now longest) ⌝ }
+    requires { ⌜ ((k : ℕ) → k < n .nodes → getD (now column) k 0 ≡ columnAt (planSeen (marksIn (sight .marks)) (now cells) (sight .width) (sight .height)) k) ⌝ }
+    requires { ⌜ RuledColumns (lenOf (sight .measure)) (view (planSeen (marksIn (sight .marks)) (now cells) (sight .width) (sight .height))) (n .ncols) (now xs) (now ws) (now cx)
+        × (n .nrows ≡ view (planSeen (marksIn (sight .marks)) (now cells) (sight .width) (sight .height)) .rows) ⌝ }
+    ensures { λ r. ⌜ Tells r (Drawn (lenOf (sight .measure)) (marksIn (sight .marks)) (now (cells .entry)) (sight .width) (sight .height)) ⌝ }
 {
-    if level::centered(nodes, column, cx, middle) {
-        if level::level(nrows, centers, cy) {
+    let rows = tree_view::tree_rows(table, n.nodes, lines, n.nrows);
+    if sized(
+        sight.width,
+        sight.height,
+        xs,
+        ws,
+        n.ncols,
+        &rows.offset,
+        &rows.height,
+        n.nrows,
+    ) {
+        let mut cy = [0u32; 32];
+        tree_view::row_centers(&rows.offset, &rows.center, n.nrows, &mut cy);
+        if level::centers_same(n, column, cx, middle, centers, &cy) {
             return compared(
                 cells,
-                width,
-                height,
-                measure,
-                g,
+                sight,
+                n,
                 table,
-                nodes,
                 column,
                 lines,
                 longest,
                 cx,
                 xs,
-                ncols,
-                cy,
-                ys,
-                nrows,
+                &cy,
+                &rows.offset,
             );
         }
         return false;
@@ -151,10 +145,7 @@ fn matches<'a>(
 // The canvas is the drawing of the plan that was gathered: the columns and rows of its nodes are laid, and compared.
 pub fn same(
     cells: &[u32],
-    width: u32,
-    height: u32,
-    measure: Measure,
-    g: Glyphs,
+    sight: Sight,
     centers: &[u32; 33],
     table: &[u32],
     nodes: usize,
@@ -162,47 +153,31 @@ pub fn same(
     lines: &[u32; 256],
     longest: &[u32; 256],
 ) -> bool
-    requires { ⌜ Given (lenOf measure) (marksIn g) (now cells) width height (now centers) (now table) nodes (now middle) (now lines) (now longest) ⌝ }
-    ensures { λ r. ⌜ Tells r (Drawn (lenOf measure) (marksIn g) (now (cells .entry)) width height) ⌝ }
+    requires { ⌜ Given (lenOf (sight .measure)) (marksIn (sight .marks)) (now cells) (sight .width) (sight .height) (now centers) (now table) nodes (now middle) (now lines) (now longest) ⌝ }
+    ensures { λ r. ⌜ Tells r (Drawn (lenOf (sight .measure)) (marksIn (sight .marks)) (now (cells .entry)) (sight .width) (sight .height)) ⌝ }
 {
     let mut column = [0u32; 256];
     let nrows = levels::rows(table, nodes);
     let ncols = levels::columns(table, nodes, &mut column);
     let d = tree_view::index_digits(nrows);
     let columns = tree_view::tree_columns(nodes, &column, longest, ncols, d + 4);
-    let rows = tree_view::tree_rows(table, nodes, lines, nrows);
-    if sized(
-        width,
-        height,
+    let n = Counts {
+        nodes,
+        ncols,
+        nrows,
+    };
+    matches(
+        cells,
+        sight,
+        n,
+        centers,
+        table,
+        &column,
+        middle,
+        lines,
+        longest,
+        &columns.center,
         &columns.offset,
         &columns.width,
-        ncols,
-        &rows.offset,
-        &rows.height,
-        nrows,
-    ) {
-        let mut cy = [0u32; 32];
-        tree_view::row_centers(&rows.offset, &rows.center, nrows, &mut cy);
-        return matches(
-            cells,
-            width,
-            height,
-            measure,
-            g,
-            centers,
-            table,
-            nodes,
-            &column,
-            middle,
-            lines,
-            longest,
-            &columns.center,
-            &columns.offset,
-            ncols,
-            &cy,
-            &rows.offset,
-            nrows,
-        );
-    }
-    false
+    )
 }

@@ -1,7 +1,7 @@
 -- Lines joined by 0A, one line at a time: each but the first brings one byte and its own.
 use mathlib.Core.Path.{_≡_, refl, ap, sym, _∙_}
 use mathlib.Core.List.{List, [], _∷_, _++_, map, append-assoc}
-use Prim.Native.Nat.{ℕ, suc, zero, _+_, _*_, _≤_, _<_, max}
+use Prim.Native.Nat.{ℕ, suc, zero, _+_, _*_, _≤_, max}
 use native.Mathlib.Nat.{not-suc-le-zero, zero-add}
 use native.Mathlib.Numerals.{add-one}
 use native.Mathlib.Omega.{arith}

@@ -1,11 +1,11 @@
 -- The next place from the start of a line that a test holds of, and the next to the left: each law is one step of `first`.
-use mathlib.Core.Path.{_≡_, ap, _∙_}
+use mathlib.Core.Path.{_≡_, ap}
 use mathlib.Core.Bool.{Bool, true, false}
-use Prim.Native.Nat.{ℕ, zero, suc, _+_, _-_, _≤_, _<_}
-use native.Mathlib.Nat.{add-zero, sub-zero}
+use Prim.Native.Nat.{ℕ, suc, _+_, _-_, _<_}
+use native.Mathlib.Nat.{sub-zero}
 use native.Mathlib.Omega.{arith}
 use Rattle.rules.specs.Base.{first}
-use Rattle.rules.proofs.Firsts.{first-most, first-here, first-past, first-same}
+use Rattle.rules.proofs.Firsts.{first-here, first-past, first-same}
 use Rattle.rules.proofs.Candidate.{next}
 
 -- from the start of a line it is the first

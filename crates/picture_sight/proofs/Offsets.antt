@@ -1,15 +1,14 @@
 -- The offsets of the rows, seen as numbers, are those of the rules' candidate: each cell has as many lines as are counted,
 -- so each row has the same height. It holds of any picture without a mark 0A.
-use mathlib.Core.Path.{_≡_, refl, ap, sym, _∙_}
-use mathlib.Core.List.{List, [], _∷_, _++_, map, List·Memᴰ, List·Memᴰ·head}
-use mathlib.Core.Bool.{Bool, true, false, _||_, _&&_}
-use Prim.Native.Nat.{ℕ, suc, zero, _+_, _*_, _-_, _≤_, _<_, max}
+use mathlib.Core.Path.{_≡_, refl, _∙_}
+use mathlib.Core.List.{List, [], _∷_, map, List·Memᴰ}
+use mathlib.Core.Bool.{Bool, true, false, _||_}
+use Prim.Native.Nat.{ℕ, suc, zero, _+_, _*_, _-_, _≤_, _<_}
 use native.Mathlib.Omega.{arith}
 use lib.Dec.{eqb, ltb}
 use lib.ListN.{length, length-map}
 use borrow.Author.Tests.{ne-eqb}
 use Rattle.rules.specs.Base.{pick, greatest, concat, first}
-use Rattle.rules.specs.Levels.{Cell}
 use Rattle.rules.specs.Measures.{lineCount}
 use Rattle.rules.specs.Drawing.{Marks}
 use Rattle.rules.proofs.Candidate.{from, next, marked, joined, lineAt, Outside, linesAt, foundAt, rowFrom, bandOf}

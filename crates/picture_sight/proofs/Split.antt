@@ -1,15 +1,14 @@
 -- Lines of a box that hold no 0A, joined by 0A and split again, are the same lines: so the lines that are counted in the picture are
 -- those of the title. A line of marks that are no 0A holds none, since the bytes of other code points are not 0A.
-use mathlib.Core.Path.{_≡_, refl, ap, sym, _∙_}
+use mathlib.Core.Path.{_≡_, refl, ap, _∙_}
 use mathlib.Core.List.{List, [], _∷_, _++_, map, List·Memᴰ, List·Memᴰ·head, List·Memᴰ·tail, List·Memᴰ·cases-cons, List·Memᴰ·not-nil}
 use mathlib.Core.Logic.{⊎-elim}
-use Prim.Native.Nat.{ℕ, suc, zero, _+_, _≤_, _<_}
+use Prim.Native.Nat.{ℕ, _+_, _≤_}
 use native.Mathlib.Nat.{not-suc-le-zero}
 use native.Mathlib.Omega.{arith}
-use lib.Dec.{eqb}
 use lib.ListN.{length}
 use borrow.Author.Tests.{ne-eqb}
-use Rattle.rules.specs.Base.{pick, concat}
+use Rattle.rules.specs.Base.{pick}
 use Rattle.rules.specs.Utf8.{utf8}
 use Rattle.rules.specs.Lines.{linesOf, onto}
 use Rattle.rules.proofs.Codec.{utf8-not}

@@ -1,10 +1,8 @@
 -- Marks along a row without the spaces at their end, from the end on: a space goes, and any other mark stays with all before it.
 use mathlib.Core.Path.{_≡_, refl, ap, sym, _∙_}
 use mathlib.Core.List.{[], _∷_, _++_, map}
-use mathlib.Core.Bool.{true, false}
-use Prim.Native.Nat.{ℕ, suc, zero, _+_, _-_, _<_}
+use Prim.Native.Nat.{ℕ, suc, _-_, _<_}
 use native.Mathlib.Omega.{arith}
-use lib.Dec.{eqb}
 use lib.ListN.{length, length-map}
 use Rattle.rules.proofs.Candidate.{from, trim}
 use Rattle.marks.proofs.Text.{length-from, map-snoc, trim-space-last, trim-mark-last}

@@ -7,6 +7,7 @@ mod outside;
 mod part;
 mod row;
 mod side;
+mod sight;
 
 pub use block::Block;
 pub use block::block_sizes;
@@ -17,3 +18,4 @@ pub use outside::margin;
 pub use outside::seen_columns;
 pub use outside::seen_rows;
 pub use side::bands;
+pub use sight::Sight;

@@ -1,21 +1,20 @@
 -- The drawing of a file from the first entries of its table. A whole form says how long the file is. Up to 257 nodes all
 -- entries are read; of more nodes 257 are, which is MANY already, as all of them would be, and MANY leaves the memory as it was.
-use mathlib.Core.Path.{_≡_, refl, ap, sym, _∙_}
+use mathlib.Core.Path.{_≡_, refl, ap, _∙_}
 use mathlib.Core.List.{List, _++_}
 use mathlib.Core.Bool.{Bool, true, false, _&&_, false≢true}
 use Prim.Native.Nat.{ℕ, _+_, _*_, _-_, _/_, _%_, _≤_, _<_, min}
-use native.Mathlib.Nat.{mul-comm}
 use native.Mathlib.Decide.{decLe}
 use native.Mathlib.Omega.{arith}
 use lib.Dec.{leb, eqb}
 use lib.ListN.{length, take, drop, length-append, length-drop}
 use lib.Seq.{take-at, length-take-le}
-use borrow.Author.Tests.{lt-ltb, eq-eqb, leb-true, eqb-true}
+use borrow.Author.Tests.{lt-ltb, leb-true, eqb-true}
 use Rattle.rules.specs.Standin.{none}
 use Rattle.rules.specs.Look.{base}
 use Rattle.rules.specs.Base.{pick}
 use Rattle.rules.specs.Plan.{count}
-use Rattle.rules.specs.Numbers.{number, ragged, many, afterCount}
+use Rattle.rules.specs.Numbers.{ragged, many, afterCount}
 use Rattle.rules.specs.Answers.{done, answer, drawing, canvasAfter, outAfter, drew, afterPlan, told}
 use Rattle.rules.specs.File.{word, offsetIn, countIn, endsInTree, formed, tableIn, titlesIn, fileDrawing, fileCanvasAfter, fileOutAfter}
 use Rattle.rules.specs.declared.Answer.{Answer}

@@ -1,11 +1,11 @@
 -- What program `treetext` prints, by what the file's drawing answers and leaves. Done, its text is in the output already. Refused, the
 -- output is as it was, and the refusal's line has room there: two numbers of at most twenty digits, and ten bytes more.
 use mathlib.Core.Path.{_≡_, refl, ap, _∙_}
-use mathlib.Core.List.{List, [], _∷_, _++_}
+use mathlib.Core.List.{List, [], _∷_, _++_, append-assoc}
 use mathlib.Core.Bool.{Bool, true, false}
 use Prim.Native.Nat.{ℕ, _≤_, _<_, _^_}
 use native.Mathlib.Omega.{arith}
-use lib.ListN.{length}
+use lib.ListN.{length, length-append}
 use borrow.Author.Tests.{eqb-true}
 use Rattle.rules.specs.Base.{pick, concat, laid}
 use Rattle.rules.specs.Utf8.{utf8}
@@ -30,20 +30,20 @@ abbrev start : List ℕ
 start = 114 ∷ 101 ∷ 102 ∷ 117 ∷ 115 ∷ 101 ∷ 100 ∷ 32 ∷ []
 
 -- the line of a refusal by its parts
-refused-parts : (a : Answer) → refused a ≡ start ++ digits (number a) ++ (32 ∷ []) ++ digits (second a) ++ (10 ∷ [])
+refused-parts : (a : Answer) → refused a ≡ start ++ (digits (number a) ++ (32 ∷ [])) ++ (digits (second a) ++ (10 ∷ []))
 unfolding refused bytes concat letters utf8 pick
-refused-parts a = refl
+refused-parts a = simp append-assoc
 
 -- these put one after another, x and y being the answer's numbers, lay the line
-module _ (a : Answer) (x y : ℕ) (ex : x ≡ number a) (ey : y ≡ second a) {l p q s t m : List ℕ} {i j k n r : ℕ}
-    (word : Put start 0 l p i) (first : Put (digits x) i p q j)
-    (space : Put (32 ∷ []) j q s k) (last : Put (digits y) k s t n) (end : Put (10 ∷ []) n t m r) where
+module _ (a : Answer) (x y : ℕ) (ex : x ≡ number a) (ey : y ≡ second a) {l p q m : List ℕ} {i j r : ℕ}
+    (word : Put start 0 l p i) (first : Put (digits x ++ (32 ∷ [])) i p q j) (last : Put (digits y ++ (10 ∷ [])) j q m r) where
   line-put : Put (refused a) 0 l m r
-  line-put = rw (refused-parts a, ← ex, ← ey) (then (then (then (then word first) space) last) end)
+  line-put = rw (refused-parts a, ← ex, ← ey) (then (then word first) last)
 
   pub line-laid : x < 2 ^ 64 → y < 2 ^ 64 → 64 ≤ length l → (r ≡ length (refused a)) × (m ≡ laid (refused a) l)
   line-laid f g h =
-      let short : r ≤ 64 = omega (arith, word .place, first .place, space .place, last .place, end .place, digits-short x f, digits-short y g) in
+      let short : r ≤ 64 =
+      omega (arith, word .place, first .place, last .place, length-append (digits x) (32 ∷ []), length-append (digits y) (10 ∷ []), digits-short x f, digits-short y g) in
       let e : r ≡ length (refused a) = omega (arith, line-put .place) in
       (e, put-laid (refused a) l m r line-put (omega arith))
 

@@ -1,12 +1,24 @@
 // What program `treetext` prints.
 ghost use mathlib.Core.Path.{_≡_};
-ghost use Prim.Native.Nat.{_≤_};
+ghost use mathlib.Core.List.{[], _∷_, _++_};
+ghost use Prim.Native.Nat.{_+_, _<_, _≤_, _^_};
 ghost use lib.ListN.{length};
 ghost use Rattle.rules.specs.Base.{laid};
+ghost use Rattle.rules.specs.Lines.{digits};
 ghost use Rattle.rules.specs.File.{fileCanvasAfter, refused, treetext as printed};
+ghost use Rattle.put.specs.Put.{Put};
 use crate::draw::draw_file;
 use rules::Answer;
 use text::wide;
+
+// Puts a number and the byte after it.
+fn ended(out: &mut [u8], at: usize, n: usize, after: u8) -> usize
+    requires { ⌜ at + length (digits n) + 1 < 2 ^ 64 ⌝ }
+    ensures { λ r. ⌜ Put (digits n ++ (after ∷ [])) at (now (out .entry)) (now (out .exit)) r ⌝ }
+{
+    let last = put::number(out, at, n);
+    put::byte(out, last, after)
+}
 
 // Lays the line of a refusal at the start of the output.
 fn refuse(out: &mut [u8], a: Answer) -> usize
@@ -16,10 +28,8 @@ fn refuse(out: &mut [u8], a: Answer) -> usize
     let number = wide(rules::number(a));
     let second = rules::second(a);
     let word = put::bytes(out, 0, b"refused ");
-    let first = put::number(out, word, number);
-    let space = put::byte(out, first, b' ');
-    let last = put::number(out, space, second);
-    put::byte(out, last, b'\n')
+    let next = ended(out, word, number, b' ');
+    ended(out, next, second, b'\n')
 }
 
 // Lays the drawing of a file, or the line of its refusal, at the start of the output, and answers its length.

@@ -1,7 +1,6 @@
 -- Row 0: the indices, put on spaces column by column, are the drawing's. Each lies inside its column.
 use mathlib.Core.Path.{_≡_, refl, ap, sym, _∙_}
 use mathlib.Core.List.{List}
-use mathlib.Core.Bool.{true, false}
 use Prim.Native.Nat.{ℕ, suc, zero, _+_, _-_, _≤_, _<_}
 use native.Mathlib.Numerals.{add-one}
 use native.Mathlib.Decide.{decLe}
@@ -26,8 +25,8 @@ use Rattle.row_ink.specs.Ink.{Inked, writeInk, indexInk}
 use Rattle.row_ink.proofs.Marked.{write-before, write-behind}
 use Rattle.row_laws.specs.Part.{Part}
 
-module _ {len : List ℕ → ℕ} {marks : Marks} {p : List Node} {w h : ℕ} {T : List ℕ} {nodes : ℕ} {C L G cx xs : List ℕ} {ncols : ℕ} {cy ys : List ℕ} {nrows : ℕ}
-    (q : Known len marks p w h T nodes C L G cx xs ncols cy ys nrows) where
+module _ {len : List ℕ → ℕ} {marks : Marks} {p : List Node} {w h : ℕ} {T : List ℕ} {nodes : ℕ} {C L G cx xs : List ℕ} {ncols : ℕ} {ys : List ℕ} {nrows : ℕ}
+    (q : Known len marks p w h T nodes C L G cx xs ncols ys nrows) where
   drawn : Laid (view p)
   drawn = laid len marks p (q .drawable)
 

@@ -6,7 +6,7 @@ use Prim.Native.Nat.{ℕ, suc, zero, _+_, _-_, _≤_, _<_}
 use native.Mathlib.Numerals.{add-one}
 use native.Mathlib.Decide.{decLe}
 use native.Mathlib.Omega.{arith}
-use lib.ListN.{length, getD}
+use lib.ListN.{getD}
 use Rattle.rules.specs.Base.{pick}
 use Rattle.rules.specs.Plan.{Node}
 use Rattle.rules.specs.Levels.{view}
@@ -14,7 +14,7 @@ use Rattle.rules.specs.Drawing.{Marks}
 use Rattle.marks.specs.Whole.{markAt}
 use Rattle.marks.specs.Numbers.{endAt}
 use Rattle.row_shapes.specs.Rows.{wireMark}
-use Rattle.row_shapes.specs.Shapes.{straight, bendWire}
+use Rattle.row_shapes.specs.Shapes.{straight}
 use Rattle.row_strips.specs.Row.{Row, RowOf, some, seenTo}
 use Rattle.row_strips.specs.Parts.{columnFrom}
 use Rattle.row_strips.specs.Known.{Known}
@@ -53,8 +53,8 @@ drop-off : (marks : Marks) (b : Bool) (l x m s : ℕ) → m ≡ s → (x ≡ l �
 drop-off marks true l x m s e f = unfold pick in put-off l (marks .│) x m f ∙ e
 drop-off marks false l x m s e f = unfold pick in e
 
-module _ {len : List ℕ → ℕ} {marks : Marks} {p : List Node} {w h : ℕ} {T : List ℕ} {nodes : ℕ} {C L G cx xs : List ℕ} {ncols : ℕ} {cy ys : List ℕ} {nrows : ℕ}
-    (q : Known len marks p w h T nodes C L G cx xs ncols cy ys nrows) (i : ℕ) (hi : i < view p .rows) (r : Row) (o : RowOf T nodes C L ncols cy ys nrows h i r)
+module _ {len : List ℕ → ℕ} {marks : Marks} {p : List Node} {w h : ℕ} {T : List ℕ} {nodes : ℕ} {C L G cx xs : List ℕ} {ncols : ℕ} {ys : List ℕ} {nrows : ℕ}
+    (q : Known len marks p w h T nodes C L G cx xs ncols ys nrows) (i : ℕ) (hi : i < view p .rows) (r : Row) (o : RowOf T nodes C L ncols ys nrows h i r)
     (y : ℕ) (from : r .top ≤ y) (to : y < r .end) where
   abbrev shows : ℕ → ℕ
   shows x = markAt len marks (view p) x y

@@ -1,7 +1,7 @@
 -- A row of a title has its line, and another row none.
-use mathlib.Core.Path.{_≡_, refl, sym, _∙_}
+use mathlib.Core.Path.{_≡_, _∙_}
 use mathlib.Core.List.{List, []}
-use mathlib.Core.Bool.{Bool, true, false}
+use mathlib.Core.Bool.{true, false}
 use Prim.Native.Nat.{ℕ, _+_}
 use lib.ListN.{length, getD, drop}
 use Rattle.rules.specs.Base.{pick}

@@ -2,7 +2,7 @@
 -- and the column's cursor is then the one for the next row.
 use mathlib.Core.Path.{_≡_, refl, ap, sym, _∙_}
 use mathlib.Core.List.{List, []}
-use mathlib.Core.Bool.{Bool, true, false, _&&_, _||_, or-true, and-true, and-false}
+use mathlib.Core.Bool.{Bool, true, false, _||_, or-true, and-true, and-false}
 use Prim.Native.Nat.{ℕ, suc, _+_, _-_, _≤_, _<_}
 use native.Mathlib.Decide.{decLe}
 use native.Mathlib.Omega.{arith}
@@ -59,8 +59,8 @@ text-below s y a = rw (le-ltb y (s .bottom) a) (and-false (ltb (s .top) y))
 text-above : (s : Code.Spot) (y : ℕ) → y ≤ s .top → inText s y ≡ false
 text-above s y a = rw (le-ltb (s .top) y a)
 
-module _ {len : List ℕ → ℕ} {marks : Marks} {p : List Node} {w h : ℕ} {T : List ℕ} {nodes : ℕ} {C L G cx xs : List ℕ} {ncols : ℕ} {cy ys : List ℕ} {nrows : ℕ}
-    (q : Known len marks p w h T nodes C L G cx xs ncols cy ys nrows) (i : ℕ) (r : Row) (y : ℕ) (u : Within T nodes C L ncols cy ys nrows h i r y) where
+module _ {len : List ℕ → ℕ} {marks : Marks} {p : List Node} {w h : ℕ} {T : List ℕ} {nodes : ℕ} {C L G cx xs : List ℕ} {ncols : ℕ} {ys : List ℕ} {nrows : ℕ}
+    (q : Known len marks p w h T nodes C L G cx xs ncols ys nrows) (i : ℕ) (r : Row) (y : ℕ) (u : Within T nodes C L ncols ys nrows h i r y) where
   hi : i < view p .rows
   hi = omega (arith, q .numbers .rows-are, u .row-in)
 
@@ -203,8 +203,8 @@ module _ {len : List ℕ → ℕ} {marks : Marks} {p : List Node} {w h : ℕ} {T
     cursor-past h at z c = absurd (omega (arith, box-in z .1))
 
 -- ---- of a table that is not refused
-module _ {len : List ℕ → ℕ} {marks : Marks} {given : Bool} {S T B : List ℕ} {w h nodes : ℕ} {C L G cx xs : List ℕ} {ncols : ℕ} {cy ys : List ℕ} {nrows : ℕ}
-    (q : Ready len marks given S T B w h nodes C L G cx xs ncols cy ys nrows) (i : ℕ) (r : Row) (y : ℕ) (u : Within T nodes C L ncols cy ys nrows h i r y) (j : ℕ) (b : j < ncols) where
+module _ {len : List ℕ → ℕ} {marks : Marks} {given : Bool} {S T B : List ℕ} {w h nodes : ℕ} {C L G cx xs : List ℕ} {ncols : ℕ} {ys : List ℕ} {nrows : ℕ}
+    (q : Ready len marks given S T B w h nodes C L G cx xs ncols ys nrows) (i : ℕ) (r : Row) (y : ℕ) (u : Within T nodes C L ncols ys nrows h i r y) (j : ℕ) (b : j < ncols) where
   node-in : (getD (r .here) j 0 ≡ 0 → ⊥) → getD (r .here) j 0 - 1 < count T
   node-in z = omega (arith, inside (q .known) i r y u j b z, shows (q .showable) .nodes)
 

@@ -18,9 +18,9 @@ use Rattle.row_shapes.specs.declared.shape.Edge.{Edge}
 use Rattle.row_shapes.specs.declared.spot.Spot.{Spot}
 use Rattle.row_shapes.specs.Plain.{plain}
 use Rattle.row_shapes.specs.Rows.{wireMark, edgeMark, textMark}
-use Rattle.row_shapes.specs.Shapes.{straight, footWire, bendWire, topEdge, bottomEdge}
+use Rattle.row_shapes.specs.Shapes.{straight, footWire, topEdge, bottomEdge}
 use Rattle.row_shapes.proofs.Places.{wire-before, wire-line, wire-next, wire-after, text-out-left, text-left, text-first, text-own, text-last, text-right, text-out-right}
-use Rattle.row_shapes.proofs.Spots.{wire-is, edge-is, head-row, top-row, bottom-row, text-row-at, foot-row, bend-row, below-row}
+use Rattle.row_shapes.proofs.Spots.{wire-is, edge-is, head-row, top-row, bottom-row, text-row-at, foot-row}
 use Rattle.row_ink.specs.Ink.{Sides, fillInk, putInk, pairInk, writeInk, edgeInk, textInk, bendInk, cellInk}
 
 -- ---- one mark, n marks and a list, by where x is

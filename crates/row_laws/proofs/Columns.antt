@@ -1,6 +1,6 @@
 -- What stands in column j of a row of the drawing, by what the code holds of it: on the rows of a cell, where no cell is, on the bend row,
 -- and under it. The closed form is the field of the column, the field is its spot, and the spot is what the drawers put on spaces.
-use mathlib.Core.Path.{_≡_, refl, ap, sym, _∙_}
+use mathlib.Core.Path.{_≡_, ap, sym, _∙_}
 use mathlib.Core.List.{List, [], List·Memᴰ}
 use mathlib.Core.Bool.{true, _&&_}
 use Prim.Native.Nat.{ℕ, suc, _+_, _-_, _≤_, _<_}
@@ -33,8 +33,8 @@ use Rattle.row_strips.proofs.Spots.{spotted}
 use Rattle.row_ink.specs.Ink.{Sides, cellInk}
 use Rattle.row_ink.proofs.Marked.{cell-mark}
 
-module _ {len : List ℕ → ℕ} {marks : Marks} {p : List Node} {w h : ℕ} {T : List ℕ} {nodes : ℕ} {C L G cx xs : List ℕ} {ncols : ℕ} {cy ys : List ℕ} {nrows : ℕ}
-    (q : Known len marks p w h T nodes C L G cx xs ncols cy ys nrows) where
+module _ {len : List ℕ → ℕ} {marks : Marks} {p : List Node} {w h : ℕ} {T : List ℕ} {nodes : ℕ} {C L G cx xs : List ℕ} {ncols : ℕ} {ys : List ℕ} {nrows : ℕ}
+    (q : Known len marks p w h T nodes C L G cx xs ncols ys nrows) where
   drawn : Laid (view p)
   drawn = laid len marks p (q .drawable)
 
@@ -42,7 +42,7 @@ module _ {len : List ℕ → ℕ} {marks : Marks} {p : List Node} {w h : ℕ} {T
   pub lettered : Lettered len (view p) (picture len marks (view p))
   lettered c m r k a b = F.inside len marks (view p) (q .lawful) (drawn .proper-view) c m r k a b
 
-  module _ (i : ℕ) (hi : i < view p .rows) (r : Row) (o : RowOf T nodes C L ncols cy ys nrows h i r) (j : ℕ) (hj : j < view p .columns)
+  module _ (i : ℕ) (hi : i < view p .rows) (r : Row) (o : RowOf T nodes C L ncols ys nrows h i r) (j : ℕ) (hj : j < view p .columns)
       (x y : ℕ) (left : columnFrom len (view p) j ≤ x) (right : x < columnFrom len (view p) (j + 1)) (from : r .top ≤ y) (to : y < r .end) where
     abbrev own : ℕ
     own = picture len marks (view p) x y

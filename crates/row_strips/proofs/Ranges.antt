@@ -1,4 +1,4 @@
--- The parts of a canvas by the arrays that hold its numbers: where columns and rows begin and end, and where a row's lines bend.
+-- The parts of a canvas by the arrays that hold its numbers: where columns and rows begin and end, where a row's lines bend, and where its middle is.
 use mathlib.Core.Path.{_≡_, ap, _∙_}
 use mathlib.Core.List.{List}
 use Prim.Native.Nat.{ℕ, suc, _+_, _-_, _/_, _≤_, _<_}
@@ -14,7 +14,7 @@ use Rattle.rules.specs.Drawing.{Marks}
 use Rattle.rules.proofs.Columns.{offset-after, offset-total, row-offset-after, row-offset-total}
 use Rattle.marks.specs.Numbers.{Numbers, endAt}
 use Rattle.marks.proofs.Places.{top-suc, column, row}
-use Rattle.row_strips.specs.Row.{bendIn}
+use Rattle.row_strips.specs.Row.{bendIn, middleIn}
 use Rattle.row_strips.specs.Parts.{columnFrom, rowFrom}
 
 pub record Column-part (len : List ℕ → ℕ) (v : View) (j : ℕ) : Type 0 where
@@ -127,4 +127,21 @@ module _ (len : List ℕ → ℕ) (marks : Marks) (v : View) where
               (let a : rowOffset v (suc i) ≡ rowOffset v (v .rows) = ap (rowOffset v) (omega arith) in
               let e = rows-end (omega arith) in
               rw (le-ltb (i + 1) (v .rows) (omega arith)) (omega (arith, q .high)))
+        ])
+
+    -- a row's middle follows from where rows begin: three rows are free between two rows
+    pub row-middles : (i : ℕ) → i < v .rows → middleIn ys nrows h i ≡ M.cy v i
+    unfolding middleIn pick
+    row-middles i b =
+        let s = top-suc len marks v i in
+        let m = row len marks v i .middle in
+        rw (q .rows-are, q .y-is i b, m)
+        (elim (decLe (suc (i + 1)) (v .rows)) [
+          | yes l ↦
+              (let a : rowOffset v (i + 1) ≡ rowOffset v (suc i) = ap (rowOffset v) (add-one i) in
+              rw (lt-ltb (i + 1) (v .rows) l, q .y-is (i + 1) l) (omega arith))
+          | no l ↦
+              (let a : rowOffset v (suc i) ≡ rowOffset v (v .rows) = ap (rowOffset v) (omega arith) in
+              let e = rows-end (omega arith) in
+              rw (le-ltb (i + 1) (v .rows) (omega arith), q .high) (omega arith))
         ])

@@ -1,8 +1,7 @@
 -- The spots that the arrays of a plan give are those of its view, and each has room in its column and its band.
 use mathlib.Core.Path.{_≡_, refl, ap, sym, _∙_}
-use mathlib.Core.List.{List, [], _∷_, List·Memᴰ, List·Memᴰ·head, List·Memᴰ·cases-cons, List·Memᴰ·not-nil, Memᴰ·append-left, Memᴰ·append-right}
-use mathlib.Core.Bool.{Bool, true, false, _&&_, not, false≢true, or-true}
-use mathlib.Core.Logic.{⊎-elim}
+use mathlib.Core.List.{List, [], _∷_, List·Memᴰ, List·Memᴰ·head, Memᴰ·append-left, Memᴰ·append-right}
+use mathlib.Core.Bool.{Bool, true, false, _&&_, not, false≢true}
 use Prim.Native.Nat.{ℕ, suc, zero, _+_, _-_, _/_, _^_, _≤_, _<_}
 use native.Mathlib.Numerals.{add-one}
 use native.Mathlib.Decide.{ℕ-discrete}
@@ -34,7 +33,7 @@ use Rattle.row_strips.specs.Row.{Row, cellsIn, some, seenTo, goesIn, Row
 use Rattle.row_strips.specs.Strip.{sizeOf, spotIn, Room, Apt}
 use Rattle.row_strips.specs.Known.{Known}
 use Rattle.row_strips.proofs.Tests.{On, some-at, on-at, none-above, seen-up, goes-on}
-use Rattle.row_strips.proofs.Ranges.{Column-part, Row-part, column-part, row-part, column-stop, row-stop, row-bends}
+use Rattle.row_strips.proofs.Ranges.{Column-part, Row-part, column-part, row-part, column-stop, row-stop, row-bends, row-middles}
 
 -- ---- a cell of a row in a column
 joint-equal : (q : Joint) (a b c : Bool) → q .parent ≡ a → q .child ≡ b → q .on ≡ c → _≡_ {A = Joint} (record { parent = a; child = b; on = c }) q
@@ -56,8 +55,8 @@ room-for w r a b x n t X W Y H cell bw aX XW W6 xm tW top end bend mid low nH wf
       stands = λ e. let o = one e in record { below = omega arith; lined = o; ends = omega arith; bends = omega arith };
     }
 
-module _ {len : List ℕ → ℕ} {marks : Marks} {p : List Node} {w h : ℕ} {T : List ℕ} {nodes : ℕ} {C L G cx xs : List ℕ} {ncols : ℕ} {cy ys : List ℕ} {nrows : ℕ}
-    (q : Known len marks p w h T nodes C L G cx xs ncols cy ys nrows) where
+module _ {len : List ℕ → ℕ} {marks : Marks} {p : List Node} {w h : ℕ} {T : List ℕ} {nodes : ℕ} {C L G cx xs : List ℕ} {ncols : ℕ} {ys : List ℕ} {nrows : ℕ}
+    (q : Known len marks p w h T nodes C L G cx xs ncols ys nrows) where
   drawn : Laid (view p)
   drawn = laid len marks p (q .drawable)
 
@@ -86,7 +85,7 @@ module _ {len : List ℕ → ℕ} {marks : Marks} {p : List Node} {w h : ℕ} {T
   node-there i j b f =
       on-at p T C L (λ k l. q .depths k (omega (arith, q .counted))) (λ k l. q .columns k (omega (arith, q .counted))) (λ k l. q .lines-are k (omega (arith, q .counted))) i j nodes b (omega (arith, q .counted)) f
 
-  module _ (i j : ℕ) (hi : i < view p .rows) (hj : j < view p .columns) (r : Row) (o : RowOf T nodes C L ncols cy ys nrows h i r) where
+  module _ (i j : ℕ) (hi : i < view p .rows) (hj : j < view p .columns) (r : Row) (o : RowOf T nodes C L ncols ys nrows h i r) where
     ps : List Cell
     ps = inRow (view p .cells) i
 
@@ -165,7 +164,7 @@ module _ {len : List ℕ → ℕ} {marks : Marks} {p : List Node} {w h : ℕ} {T
         let n : sizeOf L (getD (r .here) j 0) ≡ linesAt p k = sizes (linesAt p) L (q .lines-are) z in
         let u : sizeOf G (getD (r .here) j 0) ≡ longestAt len p k = sizes (longestAt len p) G (q .longest-are) z in
         let x : getD cx j 0 ≡ M.cx len (view p) (columnAt p k) = q .numbers .cx-is j hj ∙ ap (M.cx len (view p)) (sym (t .column-is)) in
-        let y : r .middle ≡ M.cy (view p) (depthAt p k) = o .middle-is ∙ q .numbers .cy-is i hi ∙ ap (M.cy (view p)) (sym (t .depth-is)) in
+        let y : r .middle ≡ M.cy (view p) (depthAt p k) = o .middle-is ∙ row-middles len marks (view p) (q .numbers) i hi ∙ ap (M.cy (view p)) (sym (t .depth-is)) in
         record {
           left-is = rw (x, u, e) (node-left p k (t .titled) len);
           top-is = rw (y, n, e) (node-top p k (t .titled));
@@ -221,7 +220,7 @@ module _ {len : List ℕ → ℕ} {marks : Marks} {p : List Node} {w h : ℕ} {T
             → Room w r (getD xs j 0) (endAt xs ncols w j) (getD cx j 0) n t (some (r .here) j)
         room n t a b f g one =
             let x = q .numbers .cx-is j hj in
-            let y : r .middle ≡ M.cy (view p) i = o .middle-is ∙ q .numbers .cy-is i hi in
+            let y : r .middle ≡ M.cy (view p) i = o .middle-is ∙ row-middles len marks (view p) (q .numbers) i hi in
             let s = column-stop len marks (view p) (q .numbers) j hj in
             let u = row-stop len marks (view p) (q .numbers) i hi in
             let ww = q .numbers .wide in

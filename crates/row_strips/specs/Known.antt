@@ -1,4 +1,4 @@
--- The arrays hold the numbers of a plan and of its nodes, over the length of a line and the marks.
+-- The arrays hold the numbers of a plan and of its nodes, over the length of a line and the marks. No code needs the rows' centres there: some list holds them.
 use mathlib.Core.Path.{_≡_}
 use mathlib.Core.List.{List}
 use Prim.Native.Nat.{ℕ, _*_, _≤_, _<_}
@@ -12,11 +12,12 @@ use Rattle.marks.specs.Numbers.{Numbers}
 use Rattle.marks.proofs.Tests.{Drawable}
 use Rattle.tree_view.specs.Measured.{Short, linesAt, longestAt}
 
-pub record Known (len : List ℕ → ℕ) (marks : Marks) (p : List Node) (w h : ℕ) (table : List ℕ) (nodes : ℕ) (column lines longest cx xs : List ℕ) (ncols : ℕ) (cy ys : List ℕ) (nrows : ℕ) : Type 0 where
+pub record Known (len : List ℕ → ℕ) (marks : Marks) (p : List Node) (w h : ℕ) (table : List ℕ) (nodes : ℕ) (column lines longest cx xs : List ℕ) (ncols : ℕ) (ys : List ℕ) (nrows : ℕ) : Type 0 where
   pub lawful : Lawful len marks
   pub short : Short len
   pub drawable : Drawable p
   pub small : Small p
+  pub cy : List ℕ
   pub numbers : Numbers len (view p) w h ncols nrows cx xs cy ys
   pub counted : nodes ≡ length p
   pub room : 3 * nodes ≤ length table

@@ -2,7 +2,7 @@
 use mathlib.Core.Path.{_≡_}
 use mathlib.Core.List.{List}
 use mathlib.Core.Bool.{Bool, false, not, _&&_, _||_}
-use Prim.Native.Nat.{ℕ, suc, zero, _+_, _-_, _<_}
+use Prim.Native.Nat.{ℕ, suc, zero, _+_, _-_, _/_, _<_}
 use lib.Dec.{ltb, eqb}
 use lib.ListN.{getD, set, replicate}
 use Rattle.rules.specs.Base.{pick}
@@ -39,9 +39,13 @@ goesIn here next j (suc m) = passes (getD here (suc j) 0) (getD next (suc j) 0) 
 unfoldable pub bendIn : (ys : List ℕ) (n height i : ℕ) → ℕ
 bendIn ys n height i = pick (ltb (i + 1) n) (getD ys (i + 1) 0 - 2) (height + 1)
 
+-- where row i of n has its middle: its cells' rows end three above the next row, the last row's with the canvas
+unfoldable pub middleIn : (ys : List ℕ) (n height i : ℕ) → ℕ
+middleIn ys n height i = getD ys i 0 + (pick (ltb (i + 1) n) (getD ys (i + 1) 0 - 3) height - getD ys i 0) / 2
+
 -- where row i of n begins and ends, bends and has its middle
-abbrev pub bandAt : (cy ys : List ℕ) (n height i : ℕ) → Band
-bandAt cy ys n height i = record { top = getD ys i 0; end = endAt ys n height i; bend = bendIn ys n height i; middle = getD cy i 0 }
+abbrev pub bandAt : (ys : List ℕ) (n height i : ℕ) → Band
+bandAt ys n height i = record { top = getD ys i 0; end = endAt ys n height i; bend = bendIn ys n height i; middle = middleIn ys n height i }
 
 -- the cells of the row above, of the row and of the next one, where its lines go on to the right; and where it begins, ends, bends and has its middle
 pub record Row : Type 0 where
@@ -57,8 +61,12 @@ pub record Row : Type 0 where
 abbrev pub rowBy : (above here next on : List ℕ) (top end bend middle : ℕ) → Row
 rowBy above here next on top end bend middle = record { above = above; here = here; next = next; on = on; top = top; end = end; bend = bend; middle = middle }
 
+-- and by its band
+abbrev pub rowWith : (above here next on : List ℕ) → Band → Row
+rowWith above here next on b = rowBy above here next on (b .top) (b .end) (b .bend) (b .middle)
+
 -- row i of a table
-pub record RowOf (table : List ℕ) (nodes : ℕ) (column lines : List ℕ) (ncols : ℕ) (cy ys : List ℕ) (nrows height i : ℕ) (r : Row) : Type 0 where
+pub record RowOf (table : List ℕ) (nodes : ℕ) (column lines : List ℕ) (ncols : ℕ) (ys : List ℕ) (nrows height i : ℕ) (r : Row) : Type 0 where
   pub above-is : r .above ≡ cellsIn table column lines i nodes
   pub here-is : r .here ≡ cellsIn table column lines (i + 1) nodes
   pub next-is : r .next ≡ cellsIn table column lines (i + 2) nodes
@@ -66,4 +74,4 @@ pub record RowOf (table : List ℕ) (nodes : ℕ) (column lines : List ℕ) (nco
   pub top-is : r .top ≡ getD ys i 0
   pub end-is : r .end ≡ endAt ys nrows height i
   pub bend-is : r .bend ≡ bendIn ys nrows height i
-  pub middle-is : r .middle ≡ getD cy i 0
+  pub middle-is : r .middle ≡ middleIn ys nrows height i

@@ -13,28 +13,27 @@ pub struct Band {
     pub middle: u32,
 }
 
-// The band of row i.
-pub fn band_of(cy: &[u32; 32], ys: &[u32; 32], nrows: u32, i: u32, height: u32) -> Band
-    requires { ⌜ (i < nrows) × (nrows ≤ 32) × (height < 4294967295) ⌝ }
-    requires { ⌜ (i + 1 < nrows → 2 ≤ getD (now ys) (i + 1) 0) ⌝ }
-    ensures { λ r. ⌜ r ≡ bandAt (now (cy .entry)) (now (ys .entry)) nrows height i ⌝ }
+// The band of row i. Three rows are free between two rows of cells, and the middle is that of the cells' rows.
+pub fn band_of(ys: &[u32; 32], nrows: u32, i: u32, height: u32) -> Band
+    requires { ⌜ (i < nrows) × (nrows ≤ 32) × (getD (now ys) i 0 ≤ height) × (height < 4294967295) ⌝ }
+    requires { ⌜ (i + 1 < nrows → (getD (now ys) i 0 + 3 ≤ getD (now ys) (i + 1) 0) × (getD (now ys) (i + 1) 0 ≤ height)) ⌝ }
+    ensures { λ r. ⌜ r ≡ bandAt (now (ys .entry)) nrows height i ⌝ }
 {
     let k = text::wide(i);
     let top = ys[k];
-    let middle = cy[k];
     if i + 1 < nrows {
         let end = ys[k + 1];
         return Band {
             top,
             end,
             bend: end - 2,
-            middle,
+            middle: top + (end - 3 - top) / 2,
         };
     }
     Band {
         top,
         end: height,
         bend: height + 1,
-        middle,
+        middle: top + (height - top) / 2,
     }
 }

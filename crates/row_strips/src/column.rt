@@ -3,7 +3,7 @@ ghost use mathlib.Core.Path.{_≡_};
 ghost use Prim.Native.Nat.{_+_, _/_, _^_, _≤_, _<_};
 ghost use Rattle.rules.specs.Base.{halfUp};
 ghost use Rattle.marks.specs.Numbers.{endAt};
-ghost use Rattle.row_strips.specs.Strip.{spotOf};
+ghost use Rattle.row_strips.specs.Strip.{sizeOf, spotOf};
 use row_shapes::Spot;
 
 // Where column j ends: where the next one begins, the last with the canvas.
@@ -15,6 +15,17 @@ pub fn column_end(xs: &[u32; 256], ncols: u32, j: usize, width: u32) -> u32
         return xs[j + 1];
     }
     width
+}
+
+// What a list has of node k - 1; 0 where k is 0.
+pub fn size_of(sizes: &[u32; 256], k: usize) -> u32
+    requires { ⌜ k ≤ 256 ⌝ }
+    ensures { λ r. ⌜ r ≡ sizeOf (now (sizes .entry)) k ⌝ }
+{
+    if k == 0 {
+        return 0;
+    }
+    sizes[k - 1]
 }
 
 // The spot of a cell of n lines, the longest of t, centred at (cx, cy); of no lines where there is no cell.

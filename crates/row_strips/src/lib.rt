@@ -7,6 +7,8 @@ mod nodes;
 pub use band::Band;
 pub use band::band_of;
 pub use column::column_end;
+pub use column::size_of;
 pub use column::spot_of;
+pub use nodes::first_cell;
 pub use nodes::onward;
 pub use nodes::row_cells;

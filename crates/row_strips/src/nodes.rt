@@ -1,11 +1,12 @@
-// The cells of one row, column by column, and the lines that go on to the right of each column.
+// The cells of one row, column by column, the first of them, and the lines that go on to the right of each column.
 ghost use mathlib.Core.Path.{_≡_};
 ghost use mathlib.Core.Bool.{not, _&&_};
 ghost use lib.Dec.{eqb};
 ghost use Prim.Native.Nat.{ℕ, _+_, _*_, _-_, _≤_, _<_};
 ghost use lib.ListN.{length, getD, set};
+ghost use Rattle.rules.specs.Base as base;
 ghost use Rattle.rules.specs.Plan.{depthIn};
-ghost use Rattle.row_strips.specs.Row.{cellsIn, passes, goesIn};
+ghost use Rattle.row_strips.specs.Row.{cellsIn, some, passes, goesIn};
 
 // A node of this depth and so many lines has a cell in the row above row `under`.
 fn stands(depth: u32, lines: u32, under: u32) -> bool
@@ -44,6 +45,21 @@ pub fn row_cells(
         }
         k += 1;
     }
+}
+
+// The first of n columns that has a cell; n if none has.
+pub fn first_cell(cells: &[u16; 256], n: usize) -> usize
+    requires { ⌜ n ≤ 256 ⌝ }
+    ensures { λ r. ⌜ r ≡ base.first (λ j. some (now (cells .entry)) j) n ⌝ }
+{
+    let mut j = 0;
+    while j < n {
+        if cells[j] != 0 {
+            return j;
+        }
+        j += 1;
+    }
+    n
 }
 
 // A line goes on past a column with the cell `here` of its row and `next` of the next row, `on` being 0 unless one goes on there.

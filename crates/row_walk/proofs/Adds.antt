@@ -2,16 +2,16 @@
 use mathlib.Core.Path.{_≡_, refl, ap, sym, _∙_}
 use mathlib.Core.List.{List, [], _++_}
 use mathlib.Core.Bool.{Bool, true, false}
-use Prim.Native.Nat.{ℕ, suc, zero, _+_, _-_, _^_, _≤_, _<_}
+use Prim.Native.Nat.{ℕ, _+_, _-_, _^_, _≤_, _<_}
 use native.Mathlib.Nat.{add-assoc, add-zero}
 use native.Mathlib.Omega.{arith}
 use lib.ListN.{length, getD, length-append}
-use lib.Seq.{sets, length-sets}
+use lib.Seq.{sets}
 use Rattle.rules.specs.Base.{pick, each}
 use Rattle.rules.specs.Plan.{Node}
 use Rattle.rules.specs.Levels.{view}
 use Rattle.rules.specs.Measures.{canvasWidth, canvasHeight}
-use Rattle.rules.specs.Drawing.{Marks, picture, rowText, textOf, text}
+use Rattle.rules.specs.Drawing.{Marks, textOf, text}
 use Rattle.rules.proofs.Lists.{sets-append}
 use Rattle.rules.proofs.Keeps.{each-add}
 use Rattle.rules.proofs.Text.{each-same, each-next, each-rises}
@@ -73,6 +73,11 @@ module _ (len : List ℕ → ℕ) (marks : Marks) (p : List Node) where
           place = omega (arith, f .place, g .place, ap length e ∙ length-append (textFrom len marks p y n) (textFrom len marks p (y + n) k));
           bytes = rw e (stored at (textFrom len marks p y n) (textFrom len marks p (y + n) k) l m o (f .bytes) (rw (f .place) at (g .bytes)));
         }
+
+    -- where they end
+    pub place-after : (y n at : ℕ) (l m : List ℕ) (r : ℕ) → at ≡ length (textTo len marks p y) → Added len marks p store y n at l m r → r ≡ length (textTo len marks p (y + n))
+    place-after y n at l m r e f =
+        omega (arith, f .place, ap length (text-to y n) ∙ length-append (textTo len marks p y) (textFrom len marks p y n))
 
     -- a row that is made, and its text
     module _ (ok : Lawful len marks) (dr : Drawable p) (y : ℕ) (within : y < canvasHeight (view p)) (row : List ℕ) (wide : length row ≡ canvasWidth len (view p))

@@ -1,8 +1,8 @@
 -- The three rows above the bands: what each asks, and that it is the drawing's.
-use mathlib.Core.Path.{_≡_, refl, ap, sym, _∙_}
+use mathlib.Core.Path.{_≡_, _∙_}
 use mathlib.Core.List.{List}
 use mathlib.Core.Bool.{Bool, true}
-use Prim.Native.Nat.{ℕ, suc, _+_, _-_, _^_, _≤_, _<_}
+use Prim.Native.Nat.{ℕ, _+_, _-_, _^_, _≤_, _<_}
 use native.Mathlib.Omega.{arith}
 use lib.ListN.{length, getD}
 use lib.Seq.{sets}
@@ -10,7 +10,7 @@ use Rattle.rules.specs.Measures as M
 use Rattle.rules.specs.Base.{pick}
 use Rattle.rules.specs.Levels.{view}
 use Rattle.rules.specs.Drawing.{Marks}
-use Rattle.rules.specs.Measures.{canvasWidth, canvasHeight}
+use Rattle.rules.specs.Measures.{canvasHeight}
 use Rattle.levels.specs.Shown.{planShown}
 use Rattle.tree_view.proofs.Limits.{cx-ge, d-le}
 use Rattle.row_strips.proofs.Made.{made}
@@ -19,9 +19,9 @@ use Rattle.row_ink.specs.Ink.{Inked, indexInk, axisInk, plainInk}
 use Rattle.row_bands.proofs.Heads.{index-shown}
 use Rattle.row_bands.proofs.Margins.{axis-shown, plain-shown}
 use Rattle.row_laws.specs.Part.{ShowsTo}
-use Rattle.row_walk.specs.Told.{textTo, textFrom, Added, Lent}
+use Rattle.row_walk.specs.Told.{textTo, Added, Lent}
 use Rattle.row_walk.specs.Inside.{Outside, Margin}
-use Rattle.row_walk.proofs.Adds.{text-first, added-none, added-then, emit-asks, added-row}
+use Rattle.row_walk.proofs.Adds.{emit-asks, added-row}
 
 module _ {len : List ℕ → ℕ} {marks : Marks} {given : Bool} {S T B cx : List ℕ} {ncols w : ℕ} (o : Outside len marks given S T B cx ncols w) where
   pub index-asks : (ncols ≤ 256) × ((j : ℕ) → j < ncols → 2 ≤ getD cx j 0)

@@ -1,6 +1,6 @@
 -- The ways a row drawing can end, each with its answer and its memory: refused before anything is lent, LARGE, CANVAS, ROOM, done.
 -- The rules give one answer by a chain of tests, so each way is that chain with its tests decided.
-use mathlib.Core.Path.{_≡_, refl, ap, sym, _∙_}
+use mathlib.Core.Path.{_≡_, ap, sym, _∙_}
 use mathlib.Core.List.{List}
 use mathlib.Core.Bool.{Bool, true, false, false≢true}
 use Prim.Native.Nat.{ℕ, _-_, _≤_, _<_}

@@ -13,26 +13,27 @@ use Rattle.rules.specs.Levels.{view}
 use Rattle.rules.specs.Measures.{columnOffset, canvasWidth, canvasHeight}
 use Rattle.rules.specs.Drawing.{Marks, picture, text}
 use Rattle.rules.proofs.Lists.{laid-sets}
+use Rattle.rules.specs.Look.{lenOf, marksIn}
 use Rattle.levels.specs.Shown.{planShown, Showable}
 use Rattle.marks.specs.Lawful.{Lawful}
-use Rattle.tree_view.specs.Measured.{Short}
 use Rattle.tree_view.proofs.Limits.{canvas-height-le}
-use Rattle.canvas.specs.declared.draw.Size.{Size}
 use Rattle.canvas_text.proofs.EmitText.{text-size}
-use Rattle.tree_format.specs.Sized.{Measured, Laid, Sized}
+use Rattle.text_size.specs.declared.whole.Numbers.{Numbers}
+use Rattle.tree_format.specs.Sized.{Measured, Laid}
 use Rattle.tree_format.proofs.Readied.{known}
 use Rattle.row_cells.specs.Band.{Ready}
 use Rattle.row_walk.specs.Told.{textFrom, Added, Lent}
 use Rattle.row_walk.proofs.Adds.{text-whole}
+use Rattle.rows.specs.Rowed.{ReadyBy}
 
-pub ready : {len : List ℕ → ℕ} {marks : Marks} {given : Bool} {S T B : List ℕ} {nodes : ℕ} {C L G cx xs : List ℕ} {ncols : ℕ} {cy ys : List ℕ} {nrows : ℕ} {size : Size} → Lawful len marks
-    → Short len → Showable given S T B → nodes ≡ count T → 0 < nodes → Measured len T (planShown given S T B) C L G → Laid len (view (planShown given S T B)) cx ncols cy ys nrows
-    → Sized len (view (planShown given S T B)) size → ((j : ℕ) → j < ncols → getD xs j 0 ≡ columnOffset len (view (planShown given S T B)) j)
-    → Ready len marks given S T B (size .width) (size .height) nodes C L G cx xs ncols cy ys nrows
-ready ok short a all some m l s offsets = record { showable = a; known = known ok short a all some m l s offsets }
+pub ready : {n : Numbers} {S T B C L G cx xs ys : List ℕ} → Lawful (lenOf (n .style .measure)) (marksIn (n .style .marks)) → Showable (n .style .given) S T B → n .nodes ≡ count T → 0 < n .nodes
+    → Measured (lenOf (n .style .measure)) T (planShown (n .style .given) S T B) C L G → Laid n (view (planShown (n .style .given) S T B)) cx ys
+    → ((j : ℕ) → j < n .ncols → getD xs j 0 ≡ columnOffset (lenOf (n .style .measure)) (view (planShown (n .style .given) S T B)) j)
+    → ReadyBy n S T B C L G cx xs ys
+ready ok a all some m l offsets = record { showable = a; known = known ok a all some m l offsets }
 
-module _ {len : List ℕ → ℕ} {marks : Marks} {given : Bool} {S T B : List ℕ} {w h nodes : ℕ} {C L G cx xs : List ℕ} {ncols : ℕ} {cy ys : List ℕ} {nrows : ℕ}
-    (q : Ready len marks given S T B w h nodes C L G cx xs ncols cy ys nrows) where
+module _ {len : List ℕ → ℕ} {marks : Marks} {given : Bool} {S T B : List ℕ} {w h nodes : ℕ} {C L G cx xs : List ℕ} {ncols : ℕ} {ys : List ℕ} {nrows : ℕ}
+    (q : Ready len marks given S T B w h nodes C L G cx xs ncols ys nrows) where
   abbrev all : List ℕ
   all = text len marks (planShown given S T B)
 

@@ -1,17 +1,32 @@
 -- The row drawing of a plan that no refusal before 7 meets: what it answers, and what it leaves in the lent row and in the lent output.
 use mathlib.Core.Path.{_≡_}
 use mathlib.Core.List.{List}
+use mathlib.Core.Bool.{Bool}
 use Prim.Native.Nat.{ℕ}
 use lib.ListN.{length}
 use Rattle.rules.specs.Base.{pick, laid}
 use Rattle.rules.specs.Plan.{Node}
 use Rattle.rules.specs.Levels.{view}
+use Rattle.rules.specs.Look.{lenOf, marksIn}
 use Rattle.rules.specs.Measures.{canvasWidth, area}
 use Rattle.rules.specs.Drawing.{Marks, text}
 use Rattle.rules.specs.Answers.{done, drew, afterLarge, afterCanvas, inRoom, lastRow}
 use Rattle.rules.specs.declared.Answer.{Answer}
 use Rattle.rules.specs.declared.Drawing.{Drawing}
+use Rattle.text_size.specs.declared.whole.Numbers.{Numbers}
 use Rattle.tree_format.specs.Drawn.{sizes}
+use Rattle.row_cells.specs.Band.{Ready}
+use Rattle.row_walk.specs.declared.whole.Sheet.{Sheet}
+
+-- no refusal of the table T, the title bytes B and the stand-in S, and the arrays hold the plan's numbers
+abbrev pub ReadyBy : Numbers → (S T B column lines longest cx xs ys : List ℕ) → Type 0
+ReadyBy n S T B column lines longest cx xs ys =
+    Ready (lenOf (n .style .measure)) (marksIn (n .style .marks)) (n .style .given) S T B (n .width) (n .height) (n .nodes) column lines longest cx xs (n .ncols) ys (n .nrows)
+
+-- the walk over a plan with these numbers
+abbrev pub sheetOf : Numbers → Bool → Sheet
+sheetOf n store =
+    record { style = n .style; nodes = n .nodes; ncols = n .ncols; nrows = n .nrows; width = n .width; height = n .height; store = store }
 
 -- the text t is stored in the output, which has room for it
 pub record Stored (t out : List ℕ) (w h u : ℕ) (r : Drawing) (out′ : List ℕ) : Type 0 where

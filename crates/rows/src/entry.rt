@@ -16,11 +16,10 @@ ghost use Rattle.marks.specs.Lawful.{Lawful};
 ghost use Rattle.size_laws.specs.Even.{Level};
 ghost use Rattle.size_laws.specs.Needed.{Needed};
 ghost use Rattle.tree_format.specs.Drawn.{Written};
-ghost use Rattle.tree_format.specs.Sized.{Measured, Laid, Sized};
-ghost use Rattle.row_cells.specs.Band.{Ready};
+ghost use Rattle.tree_format.specs.Sized.{Measured, Laid};
 ghost use Rattle.row_walk.specs.Told.{Lent};
-ghost use Rattle.rows.specs.Rowed.{Stored, Rowed};
-use canvas::Size;
+ghost use Rattle.rows.specs.Rowed.{ReadyBy, sheetOf, Stored, Rowed};
+use row_walk::Sheet;
 use rules::Answer;
 use rules::Drawing;
 use rules::Measure;
@@ -28,12 +27,27 @@ use rules::Profile;
 use rules::Style;
 use text_size::Numbers;
 
+// The walk over a plan with these numbers, its text stored or only counted.
+fn sheet_of(n: Numbers, store: bool) -> Sheet
+    ensures { λ r. ⌜ r ≡ sheetOf n store ⌝ }
+{
+    let style = n.style;
+    Sheet {
+        style,
+        nodes: n.nodes,
+        ncols: n.ncols,
+        nrows: n.nrows,
+        width: n.width,
+        height: n.height,
+        store,
+    }
+}
+
 // What the text needs, if that is more than the output has; the row is then left as the last of the drawing, which the walk makes.
 fn counted<'a>(
     row: &mut [u32],
-    style: Style,
+    n: Numbers,
     table: &[u32],
-    nodes: usize,
     titles: &'a [u8],
     standin: &'a [u8],
     column: &[u32; 256],
@@ -41,30 +55,17 @@ fn counted<'a>(
     longest: &[u32; 256],
     cx: &[u32; 256],
     xs: &[u32; 256],
-    ncols: u32,
-    cy: &[u32; 32],
     ys: &[u32; 32],
-    nrows: u32,
-    size: Size,
     out: &mut [u8],
 ) -> usize
-    requires { ⌜ Ready (lenOf (style .measure)) (marksIn (style .marks)) (style .given) (now standin) (now table) (now titles) (size .width) (size .height) nodes (now column) (now lines) (now longest) (now cx) (now xs) ncols (now cy) (now ys) nrows ⌝ }
-    requires { ⌜ (length (now row) ≡ size .width) × Lent (lenOf (style .measure)) (marksIn (style .marks)) (planShown (style .given) (now standin) (now table) (now titles)) (size .width) false (length (now out)) ⌝ }
-    requires { ⌜ (size .width * size .height ≤ 1048576) × Level (marksIn (style .marks)) ⌝ }
-    ensures { λ r. ⌜ Needed (text (lenOf (style .measure)) (marksIn (style .marks)) (planShown (style .given) (now (standin .entry)) (now (table .entry)) (now (titles .entry)))) (length (now (out .entry))) r ⌝ }
-    ensures { λ r. ⌜ (now (out .exit) ≡ now (out .entry)) × (length (now (out .entry)) < r → now (row .exit) ≡ lastRow (lenOf (style .measure)) (marksIn (style .marks)) (planShown (style .given) (now (standin .entry)) (now (table .entry)) (now (titles .entry)))) ⌝ }
+    requires { ⌜ ReadyBy n (now standin) (now table) (now titles) (now column) (now lines) (now longest) (now cx) (now xs) (now ys) ⌝ }
+    requires { ⌜ (length (now row) ≡ n .width) × Lent (lenOf (n .style .measure)) (marksIn (n .style .marks)) (planShown (n .style .given) (now standin) (now table) (now titles)) (n .width) false (length (now out)) × (n .room ≡ length (now out)) ⌝ }
+    requires { ⌜ (n .width * n .height ≤ 1048576) × Level (marksIn (n .style .marks)) ⌝ }
+    ensures { λ r. ⌜ Needed (text (lenOf (n .style .measure)) (marksIn (n .style .marks)) (planShown (n .style .given) (now (standin .entry)) (now (table .entry)) (now (titles .entry)))) (length (now (out .entry))) r ⌝ }
+    ensures { λ r. ⌜ (now (out .exit) ≡ now (out .entry)) × (length (now (out .entry)) < r → now (row .exit) ≡ lastRow (lenOf (n .style .measure)) (marksIn (n .style .marks)) (planShown (n .style .given) (now (standin .entry)) (now (table .entry)) (now (titles .entry)))) ⌝ }
 {
-    let n = Numbers {
-        nodes,
-        ncols,
-        nrows,
-        width: size.width,
-        height: size.height,
-        room: out.len(),
-    };
     let need = text_size::needed(
         n,
-        style,
         table,
         titles,
         standin,
@@ -73,18 +74,17 @@ fn counted<'a>(
         longest,
         cx,
         xs,
-        cy,
         ys,
     );
     if need <= n.room {
         return need;
     }
     let store = false;
+    let s = sheet_of(n, store);
     row_walk::walk(
         row,
-        style,
+        s,
         table,
-        nodes,
         titles,
         standin,
         column,
@@ -92,12 +92,7 @@ fn counted<'a>(
         longest,
         cx,
         xs,
-        ncols,
-        cy,
         ys,
-        nrows,
-        size,
-        store,
         out,
     )
 }
@@ -105,9 +100,8 @@ fn counted<'a>(
 // The text of a plan of this size, which has room, made in a row of its width.
 fn stored<'a>(
     row: &mut [u32],
-    style: Style,
+    n: Numbers,
     table: &[u32],
-    nodes: usize,
     titles: &'a [u8],
     standin: &'a [u8],
     column: &[u32; 256],
@@ -115,23 +109,19 @@ fn stored<'a>(
     longest: &[u32; 256],
     cx: &[u32; 256],
     xs: &[u32; 256],
-    ncols: u32,
-    cy: &[u32; 32],
     ys: &[u32; 32],
-    nrows: u32,
-    size: Size,
     out: &mut [u8],
 ) -> Drawing
-    requires { ⌜ Ready (lenOf (style .measure)) (marksIn (style .marks)) (style .given) (now standin) (now table) (now titles) (size .width) (size .height) nodes (now column) (now lines) (now longest) (now cx) (now xs) ncols (now cy) (now ys) nrows ⌝ }
-    requires { ⌜ (length (now row) ≡ size .width) × Lent (lenOf (style .measure)) (marksIn (style .marks)) (planShown (style .given) (now standin) (now table) (now titles)) (size .width) true (length (now out)) ⌝ }
-    ensures { λ r. ⌜ Stored (text (lenOf (style .measure)) (marksIn (style .marks)) (planShown (style .given) (now (standin .entry)) (now (table .entry)) (now (titles .entry)))) (now (out .entry)) (size .width) (size .height) (untitled (planOf (now (table .entry)) (now (titles .entry)))) r (now (out .exit)) ⌝ }
-    ensures { λ _. ⌜ now (row .exit) ≡ lastRow (lenOf (style .measure)) (marksIn (style .marks)) (planShown (style .given) (now (standin .entry)) (now (table .entry)) (now (titles .entry))) ⌝ }
+    requires { ⌜ ReadyBy n (now standin) (now table) (now titles) (now column) (now lines) (now longest) (now cx) (now xs) (now ys) ⌝ }
+    requires { ⌜ (length (now row) ≡ n .width) × Lent (lenOf (n .style .measure)) (marksIn (n .style .marks)) (planShown (n .style .given) (now standin) (now table) (now titles)) (n .width) true (length (now out)) ⌝ }
+    ensures { λ r. ⌜ Stored (text (lenOf (n .style .measure)) (marksIn (n .style .marks)) (planShown (n .style .given) (now (standin .entry)) (now (table .entry)) (now (titles .entry)))) (now (out .entry)) (n .width) (n .height) (untitled (planOf (now (table .entry)) (now (titles .entry)))) r (now (out .exit)) ⌝ }
+    ensures { λ _. ⌜ now (row .exit) ≡ lastRow (lenOf (n .style .measure)) (marksIn (n .style .marks)) (planShown (n .style .given) (now (standin .entry)) (now (table .entry)) (now (titles .entry))) ⌝ }
 {
+    let s = sheet_of(n, true);
     let bytes = row_walk::walk(
         row,
-        style,
+        s,
         table,
-        nodes,
         titles,
         standin,
         column,
@@ -139,28 +129,22 @@ fn stored<'a>(
         longest,
         cx,
         xs,
-        ncols,
-        cy,
         ys,
-        nrows,
-        size,
-        true,
         out,
     );
     Drawing {
         answer: Answer::Done(bytes),
-        width: text::wide(size.width),
-        height: text::wide(size.height),
-        untitled: text::wide(levels::untitled(table, nodes)),
+        width: text::wide(n.width),
+        height: text::wide(n.height),
+        untitled: text::wide(levels::untitled(table, n.nodes)),
     }
 }
 
 // The text of a plan of this size, made in a row of its width, or ROOM.
 fn written<'a>(
     row: &mut [u32],
-    style: Style,
+    n: Numbers,
     table: &[u32],
-    nodes: usize,
     titles: &'a [u8],
     standin: &'a [u8],
     column: &[u32; 256],
@@ -168,24 +152,19 @@ fn written<'a>(
     longest: &[u32; 256],
     cx: &[u32; 256],
     xs: &[u32; 256],
-    ncols: u32,
-    cy: &[u32; 32],
     ys: &[u32; 32],
-    nrows: u32,
-    size: Size,
     out: &mut [u8],
 ) -> Drawing
-    requires { ⌜ Ready (lenOf (style .measure)) (marksIn (style .marks)) (style .given) (now standin) (now table) (now titles) (size .width) (size .height) nodes (now column) (now lines) (now longest) (now cx) (now xs) ncols (now cy) (now ys) nrows ⌝ }
-    requires { ⌜ (length (now row) ≡ size .width) × Lent (lenOf (style .measure)) (marksIn (style .marks)) (planShown (style .given) (now standin) (now table) (now titles)) (size .width) false (length (now out)) ⌝ }
-    requires { ⌜ (size .width * size .height ≤ 1048576) × Level (marksIn (style .marks)) ⌝ }
-    ensures { λ r. ⌜ Written (text (lenOf (style .measure)) (marksIn (style .marks)) (planShown (style .given) (now (standin .entry)) (now (table .entry)) (now (titles .entry)))) (now (out .entry)) (size .width) (size .height) (untitled (planOf (now (table .entry)) (now (titles .entry)))) r (now (out .exit)) ⌝ }
-    ensures { λ _. ⌜ now (row .exit) ≡ lastRow (lenOf (style .measure)) (marksIn (style .marks)) (planShown (style .given) (now (standin .entry)) (now (table .entry)) (now (titles .entry))) ⌝ }
+    requires { ⌜ ReadyBy n (now standin) (now table) (now titles) (now column) (now lines) (now longest) (now cx) (now xs) (now ys) ⌝ }
+    requires { ⌜ (length (now row) ≡ n .width) × Lent (lenOf (n .style .measure)) (marksIn (n .style .marks)) (planShown (n .style .given) (now standin) (now table) (now titles)) (n .width) false (length (now out)) × (n .room ≡ length (now out)) ⌝ }
+    requires { ⌜ (n .width * n .height ≤ 1048576) × Level (marksIn (n .style .marks)) ⌝ }
+    ensures { λ r. ⌜ Written (text (lenOf (n .style .measure)) (marksIn (n .style .marks)) (planShown (n .style .given) (now (standin .entry)) (now (table .entry)) (now (titles .entry)))) (now (out .entry)) (n .width) (n .height) (untitled (planOf (now (table .entry)) (now (titles .entry)))) r (now (out .exit)) ⌝ }
+    ensures { λ _. ⌜ now (row .exit) ≡ lastRow (lenOf (n .style .measure)) (marksIn (n .style .marks)) (planShown (n .style .given) (now (standin .entry)) (now (table .entry)) (now (titles .entry))) ⌝ }
 {
     let need = counted(
         row,
-        style,
+        n,
         table,
-        nodes,
         titles,
         standin,
         column,
@@ -193,21 +172,16 @@ fn written<'a>(
         longest,
         cx,
         xs,
-        ncols,
-        cy,
         ys,
-        nrows,
-        size,
         out,
     );
-    if out.len() < need {
+    if n.room < need {
         return tree_format::undrawn(Answer::Room(need));
     }
     stored(
         row,
-        style,
+        n,
         table,
-        nodes,
         titles,
         standin,
         column,
@@ -215,11 +189,7 @@ fn written<'a>(
         longest,
         cx,
         xs,
-        ncols,
-        cy,
         ys,
-        nrows,
-        size,
         out,
     )
 }
@@ -227,9 +197,8 @@ fn written<'a>(
 // Draws a plan of this size, or tells which cells or bytes it lacks.
 fn sized<'a, 'b>(
     row: &mut [u32],
-    style: Style,
+    n: Numbers,
     table: &[u32],
-    nodes: usize,
     titles: &'a [u8],
     standin: &'a [u8],
     column: &[u32; 256],
@@ -237,34 +206,29 @@ fn sized<'a, 'b>(
     longest: &[u32; 256],
     cx: &'b [u32; 256],
     xs: &'b [u32; 256],
-    ncols: u32,
-    cy: &[u32; 32],
     ys: &[u32; 32],
-    nrows: u32,
-    size: Size,
     out: &mut [u8],
 ) -> Drawing
-    requires { ⌜ Showable (style .given) (now standin) (now table) (now titles) × (nodes ≡ count (now table)) × (0 < nodes) × Lawful (lenOf (style .measure)) (marksIn (style .marks)) × Level (marksIn (style .marks)) ⌝ }
-    requires { ⌜ Measured (lenOf (style .measure)) (now table) (planShown (style .given) (now standin) (now table) (now titles)) (now column) (now lines) (now longest) ⌝ }
-    requires { ⌜ Laid (lenOf (style .measure)) (view (planShown (style .given) (now standin) (now table) (now titles))) (now cx) ncols (now cy) (now ys) nrows × Sized (lenOf (style .measure)) (view (planShown (style .given) (now standin) (now table) (now titles))) size ⌝ }
-    requires { ⌜ ((j : ℕ) → j < ncols → getD (now xs) j 0 ≡ columnOffset (lenOf (style .measure)) (view (planShown (style .given) (now standin) (now table) (now titles))) j) ⌝ }
-    ensures { λ r. ⌜ Rowed (lenOf (style .measure)) (marksIn (style .marks)) (planShown (style .given) (now (standin .entry)) (now (table .entry)) (now (titles .entry)))
+    requires { ⌜ Showable (n .style .given) (now standin) (now table) (now titles) × (n .nodes ≡ count (now table)) × (0 < n .nodes) × Lawful (lenOf (n .style .measure)) (marksIn (n .style .marks)) × Level (marksIn (n .style .marks)) ⌝ }
+    requires { ⌜ Measured (lenOf (n .style .measure)) (now table) (planShown (n .style .given) (now standin) (now table) (now titles)) (now column) (now lines) (now longest) ⌝ }
+    requires { ⌜ Laid n (view (planShown (n .style .given) (now standin) (now table) (now titles))) (now cx) (now ys) × (n .room ≡ length (now out)) ⌝ }
+    requires { ⌜ ((j : ℕ) → j < n .ncols → getD (now xs) j 0 ≡ columnOffset (lenOf (n .style .measure)) (view (planShown (n .style .given) (now standin) (now table) (now titles))) j) ⌝ }
+    ensures { λ r. ⌜ Rowed (lenOf (n .style .measure)) (marksIn (n .style .marks)) (planShown (n .style .given) (now (standin .entry)) (now (table .entry)) (now (titles .entry)))
         (untitled (planOf (now (table .entry)) (now (titles .entry)))) (now (row .entry)) (now (out .entry)) r (now (row .exit)) (now (out .exit)) ⌝ }
 {
-    let need = tree_view::area(size.width, size.height);
+    let need = tree_view::area(n.width, n.height);
     if rules::MOST_CELLS < need {
         return tree_format::undrawn(Answer::Large);
     }
-    let width = text::wide(size.width);
+    let width = text::wide(n.width);
     let lent = row.len();
     if lent < width {
         return tree_format::undrawn(Answer::Canvas(width));
     }
     written(
         &mut row[..width],
-        style,
+        n,
         table,
-        nodes,
         titles,
         standin,
         column,
@@ -272,11 +236,7 @@ fn sized<'a, 'b>(
         longest,
         cx,
         xs,
-        ncols,
-        cy,
         ys,
-        nrows,
-        size,
         out,
     )
 }
@@ -305,17 +265,19 @@ fn measured<'a>(
     let d = tree_view::index_digits(nrows);
     let columns = tree_view::tree_columns(nodes, column, longest, ncols, d + 4);
     let rows = tree_view::tree_rows(table, nodes, lines, nrows);
-    let size = Size {
+    let n = Numbers {
+        style,
+        nodes,
+        ncols,
+        nrows,
         width: tree_view::canvas_width(&columns.offset, &columns.width, ncols),
         height: tree_view::canvas_height(&rows.offset, &rows.height, nrows),
+        room: out.len(),
     };
-    let mut cy = [0u32; 32];
-    tree_view::row_centers(&rows.offset, &rows.center, nrows, &mut cy);
     sized(
         row,
-        style,
+        n,
         table,
-        nodes,
         titles,
         standin,
         column,
@@ -323,11 +285,7 @@ fn measured<'a>(
         longest,
         &columns.center,
         &columns.offset,
-        ncols,
-        &cy,
         &rows.offset,
-        nrows,
-        size,
         out,
     )
 }

@@ -7,7 +7,7 @@ use native.Mathlib.Nat.{not-suc-le-zero}
 use native.Mathlib.Decide.{decLe}
 use native.Mathlib.Omega.{arith}
 use lib.Dec.{ltb}
-use borrow.Author.Tests.{lt-ltb, le-ltb}
+use borrow.Author.Tests.{lt-ltb, le-ltb, ltb-false}
 use Rattle.rules.specs.Base.{pick, first}
 use Rattle.rules.proofs.Lists.{first-none, first-hit}
 
@@ -79,6 +79,10 @@ first-past t n e =
     before : (k : ℕ) → k < suc (first (λ k. t (suc k)) n) → t k ≡ false
     before zero h = e
     before (suc j) h = first-before (λ k. t (suc k)) n j (omega arith)
+
+-- where it is not found in the range, it holds nowhere there
+pub first-lacks : (t : ℕ → Bool) (n : ℕ) → ltb (first t n) n ≡ false → (k : ℕ) → k < n → t k ≡ false
+first-lacks t n e k h = first-before t n k (omega (arith, ltb-false (first t n) n e))
 
 -- tests that agree in the range find the same place
 pub first-same : (s t : ℕ → Bool) (n : ℕ) → ((k : ℕ) → k < n → s k ≡ t k) → first s n ≡ first t n

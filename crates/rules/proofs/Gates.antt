@@ -55,6 +55,12 @@ unfolding done
 gate-passed (lets h) next e = ap done (h (Answer.Done 0))
 gate-passed (stops a s h) next e = ap done (h (Answer.Done 0) ∙ sym (h next)) ∙ e
 
+-- one test: where the answer behind a refusal is done, the test was passed
+pub test-passed : (b : Bool) (a next : Answer) → done a ≡ false → done (pick b a next) ≡ true → (b ≡ false) × (pick b a next ≡ next) × (done next ≡ true)
+unfolding pick
+test-passed true a next f e = absurd (false≢true (sym f ∙ e))
+test-passed false a next f e = (refl, refl, e)
+
 early : (a : Answer) (n : ℕ) → number a ≡ n → (n ≡ 0 → ⊥) → (n ≡ 8 → ⊥) → (n ≡ 9 → ⊥) → Early a
 early a n e d c r = record { not-done = λ z. d (omega arith); not-canvas = λ z. c (omega arith); not-room = λ z. r (omega arith) }
 

@@ -5,7 +5,6 @@ use mathlib.Core.Bool.{Bool, true, false}
 use mathlib.Core.Logic.{⊎-elim}
 use Prim.Native.Nat.{ℕ, suc, zero, _+_, _<_}
 use native.Mathlib.Nat.{add-zero, add-suc}
-use native.Mathlib.Omega.{arith}
 use Rattle.rules.specs.Base.{pick, keep, each}
 
 module _ {A : Type 0} where

@@ -9,11 +9,11 @@ use native.Mathlib.Omega.{arith}
 use lib.Dec.{eqb}
 use lib.ListN.{length}
 use borrow.Author.Tests.{lt-ltb}
-use Rattle.rules.specs.Base.{pick, every, concat, each}
+use Rattle.rules.specs.Base.{pick, every, each}
 use Rattle.rules.specs.Utf8.{span, valid, points, utf8}
 use Rattle.rules.specs.Plan.{Node, nodeAt, depthAt}
-use Rattle.rules.specs.Levels.{Cell, View, columnAt, cellAt, view}
-use Rattle.rules.specs.Measures.{linesIn, canvasWidth, canvasHeight}
+use Rattle.rules.specs.Levels.{Cell, columnAt, cellAt, view}
+use Rattle.rules.specs.Measures.{canvasWidth, canvasHeight}
 use Rattle.rules.specs.Drawing.{Marks, picture, endOf, rowText, textOf, text}
 use Rattle.rules.specs.Look.{marksOf, printed, allowedIn}
 use Rattle.rules.specs.declared.Profile.{Profile}

@@ -3,7 +3,6 @@
 -- and go by what stands at the points of the canvas alone.
 use mathlib.Core.Path.{_≡_, refl, ap, sym, _∙_}
 use mathlib.Core.List.{List, [], _∷_, _++_, append-nil}
-use mathlib.Core.Bool.{true, false}
 use Prim.Native.Nat.{ℕ, suc, zero, _+_, _*_, _-_, _/_, min, _≤_, _<_}
 use native.Mathlib.Nat.{suc-mul, mul-one, mul-le-mul-left, div-eq-of-lt-le}
 use native.Mathlib.Decide.{decLe}

@@ -1,10 +1,10 @@
 -- The text of a canvas: it goes by what stands on the canvas alone, and each of its rows has at most four bytes a cell and one more.
 -- Each law is one about `each`, taken twice: along a row, and along the rows.
-use mathlib.Core.Path.{_≡_, refl, ap, sym}
-use mathlib.Core.List.{List, [], _∷_, _++_, append-assoc, append-nil}
+use mathlib.Core.Path.{_≡_, refl, ap}
+use mathlib.Core.List.{List, [], _∷_, _++_}
 use mathlib.Core.Bool.{Bool, true, false}
 use Prim.Native.Nat.{ℕ, suc, zero, _+_, _*_, _≤_, _<_}
-use native.Mathlib.Nat.{suc-mul, add-zero, add-suc}
+use native.Mathlib.Nat.{suc-mul}
 use native.Mathlib.Numerals.{add-one}
 use native.Mathlib.Decide.{decLe}
 use native.Mathlib.Omega.{arith}

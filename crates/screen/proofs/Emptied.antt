@@ -15,7 +15,7 @@ use Rattle.rules.specs.Base.{pick, greatest, total}
 use Rattle.rules.specs.Plan.{Node, nodeAt, depthAt}
 use Rattle.rules.specs.Levels.{Cell, leaf, columnAt, rowsOf, columnsOf, cellAt, view}
 use Rattle.rules.specs.Measures.{lineCount, longest, height, width}
-use Rattle.levels.proofs.Plans.{total-same}
+use Rattle.rules.proofs.Lists.{total-same}
 use Rattle.tree_view.proofs.Limits.{risen}
 use Rattle.tree_view.specs.Measured.{linesAt, longestAt}
 use Rattle.tree_view.specs.Sizes.{most}

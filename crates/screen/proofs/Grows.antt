@@ -16,10 +16,9 @@ use Rattle.rules.specs.Lines.{digits}
 use Rattle.rules.specs.Plan.{Node, depthAt}
 use Rattle.rules.specs.Levels.{columnAt, rowsOf, columnsOf, view}
 use Rattle.rules.specs.Measures.{d, height, width, canvasHeight, canvasWidth}
-use Rattle.rules.proofs.Lists.{first-none, first-hit}
+use Rattle.rules.proofs.Lists.{first-none, first-hit, total-same}
 use Rattle.rules.proofs.Firsts.{first-holds}
 use Rattle.rules.proofs.Bounds.{Small, rows-some, columns-few, column-below, row-below}
-use Rattle.levels.proofs.Plans.{total-same}
 use Rattle.tree_view.specs.Measured.{linesAt, longestAt}
 use Rattle.tree_view.specs.Sizes.{most}
 use Rattle.tree_view.proofs.Sizes.{most-more, replicate-at}

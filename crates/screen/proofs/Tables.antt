@@ -1,23 +1,24 @@
 -- A table that none of refusals 1 to 5 meets, in numbers: its plan is inside the limits, and a node's cell is measured by its title, whose bytes
 -- are not looked into. A chain of refusals that is done has passed each of them.
-use mathlib.Core.Path.{_≡_, refl, sym, ap, _∙_}
+use mathlib.Core.Path.{_≡_, refl, ap, _∙_}
 use mathlib.Core.List.{List}
-use mathlib.Core.Bool.{Bool, true, false, not, false≢true}
+use mathlib.Core.Bool.{true, not}
 use Prim.Native.Nat.{ℕ, _+_, _*_, _%_, _≤_, _<_}
 use native.Mathlib.Omega.{arith}
 use lib.Dec.{leb, ltb, eqb}
 use lib.ListN.{length, drop, length-drop}
 use lib.Seq.{length-take-le}
 use borrow.Author.Tests.{leb-false, ltb-false, eqb-true, eqb-false, not-false}
-use Rattle.rules.specs.Base.{pick, first}
+use Rattle.rules.specs.Base.{first}
 use Rattle.rules.specs.Plan.{Node, count, depthIn, startIn, sizeIn, titleIn, planOf, nodeAt, depthAt, depthRule}
 use Rattle.rules.specs.Numbers.{ragged, many, noNode, badDepth, badTitle, firstSuch, afterCount}
 use Rattle.rules.specs.Answers.{done}
 use Rattle.rules.specs.declared.Answer.{Answer}
 use Rattle.rules.proofs.Lists.{length-plan, depth-plan}
-use Rattle.rules.proofs.Firsts.{first-before}
 use Rattle.rules.proofs.Tests.{neither}
 use Rattle.rules.proofs.Bounds.{Small}
+use Rattle.rules.proofs.Gates.{test-passed}
+use Rattle.rules.proofs.Firsts.{first-lacks}
 use Rattle.levels.proofs.Plans.{node-plan}
 use Rattle.levels.proofs.Tests.{right-title}
 use Rattle.screen.specs.Fits.{nodeRefusal, refusal}
@@ -51,29 +52,20 @@ module _ {T B : List ℕ} (a : Measurable T B) where
   pub depth-small : (k : ℕ) → k < count T → depthIn T k < 32
   depth-small k h = omega (arith, depth-plan T B k h, small .depths k (omega (arith, length-plan T B)))
 
--- a step of a chain that is done has been passed
-passed : (b : Bool) (x y : Answer) → done x ≡ false → done (pick b x y) ≡ true → (b ≡ false) × (done y ≡ true)
-unfolding pick
-passed true x y e h = absurd (false≢true (sym e ∙ h))
-passed false x y e h = (refl, h)
-
 module _ (T B : List ℕ) where
-  none-of : (t : ℕ → Bool) → ltb (first t (count T)) (count T) ≡ false → (k : ℕ) → k < count T → t k ≡ false
-  none-of t e k h = first-before t (count T) k (omega (arith, ltb-false (first t (count T)) (count T) e))
-
   pub done-measurable : done (refusal T B) ≡ true → Measurable T B
   unfolding refusal nodeRefusal afterCount firstSuch done ragged many noNode count
   done-measurable h =
-      let (r, after-ragged) = passed (ragged T) Answer.Ragged _ refl h in
-      let (m, after-many) = passed (many T) Answer.Many _ refl after-ragged in
-      let (e, after-none) = passed (noNode T) Answer.None _ refl after-many in
-      let (d, after-depth) = passed (ltb (first (badDepth (planOf T B)) (count T)) (count T)) _ _ refl after-none in
-      let (t, after-title) = passed (ltb (first (badTitle T B) (count T)) (count T)) _ _ refl after-depth in
+      let (r, _, after-ragged) = test-passed (ragged T) Answer.Ragged _ refl h in
+      let (m, _, after-many) = test-passed (many T) Answer.Many _ refl after-ragged in
+      let (e, _, after-none) = test-passed (noNode T) Answer.None _ refl after-many in
+      let (d, _, after-depth) = test-passed (ltb (first (badDepth (planOf T B)) (count T)) (count T)) _ _ refl after-none in
+      let (t, _, after-title) = test-passed (ltb (first (badTitle T B) (count T)) (count T)) _ _ refl after-depth in
       let n = eqb-false (count T) 0 e in
       record {
         whole = omega (arith, eqb-true (length T % 3) 0 (not-false (eqb (length T % 3) 0) r));
         some = omega arith;
         few = ltb-false 256 (count T) m;
-        depths = none-of (badDepth (planOf T B)) d;
-        titles = none-of (badTitle T B) t;
+        depths = first-lacks (badDepth (planOf T B)) (count T) d;
+        titles = first-lacks (badTitle T B) (count T) t;
       }

@@ -3,13 +3,12 @@
 -- that is not 0A (Glued.antt asks no more of a canvas).
 use mathlib.Core.Path.{_≡_, refl, ap, sym, _∙_}
 use mathlib.Core.List.{List, [], _∷_, List·Memᴰ, List·Memᴰ·cases-cons, List·Memᴰ·not-nil}
-use mathlib.Core.Bool.{Bool, true, false, _||_, false≢true}
+use mathlib.Core.Bool.{Bool, true, _||_}
 use mathlib.Core.Logic.{⊎-elim}
 use Prim.Native.Nat.{ℕ, suc, _≤_, _<_}
 use native.Mathlib.Omega.{arith}
 use lib.Dec.{eqb}
 use lib.ListN.{length}
-use Rattle.rules.specs.Base.{pick}
 use Rattle.rules.specs.Utf8.{valid}
 use Rattle.rules.specs.Plan.{Node, nodeAt}
 use Rattle.rules.specs.Standin.{standinOf}
@@ -22,11 +21,11 @@ use Rattle.rules.specs.Sheets.{parts, partSize, sheetsText, sheetsAnswer}
 use Rattle.rules.specs.declared.Answer.{Answer}
 use Rattle.rules.specs.declared.Measure.{Measure}
 use Rattle.rules.specs.declared.Profile.{Profile}
-use Rattle.rules.proofs.Gates.{gate-plan, gate-passed}
+use Rattle.rules.proofs.Gates.{gate-plan, gate-passed, test-passed}
 use Rattle.levels.specs.Shown.{planShown}
 use Rattle.levels.proofs.Shown.{shows}
 use Rattle.levels.proofs.Refused.{plan-all, all-showable}
-use Rattle.marks.specs.Lawful.{Seen, Lawful}
+use Rattle.marks.specs.Lawful.{Lawful}
 use Rattle.marks.proofs.Text.{held}
 use Rattle.marks.proofs.Ends.{lawful-in}
 use Rattle.marks.proofs.Picture.{titles-held}
@@ -58,20 +57,15 @@ module _ (m : Measure) (f : Profile) (given : Bool) (S T B : List ℕ) (w h cell
   H = canvasHeight (view p)
 
   -- what was asked before: sizes that are not 0, and valid titles
-  passed : (b : Bool) (x : Answer) → done (pick b Answer.Sheet x) ≡ true → (b ≡ false) × (done x ≡ true)
-  unfolding pick done
-  passed true x q = absurd (false≢true q)
-  passed false x q = (refl, q)
-
   sizes : (1 ≤ w) × (1 ≤ h)
-  unfolding sheetsAnswer
-  sizes = both-some w h (passed (eqb w 0 || eqb h 0) _ ok .0)
+  unfolding sheetsAnswer done
+  sizes = both-some w h (test-passed (eqb w 0 || eqb h 0) Answer.Sheet _ refl ok .0)
 
   titles-valid : (n : Node) → List·Memᴰ n p → valid (n .title) ≡ true
-  unfolding sheetsAnswer
+  unfolding sheetsAnswer done
   titles-valid n i =
       let s = standinOf given S in
-      let q = ap done (plan-all f s T B (Answer.Done 0)) ∙ gate-passed (gate-plan (allowedIn f) s T B) _ (passed (eqb w 0 || eqb h 0) _ ok .1) in
+      let q = ap done (plan-all f s T B (Answer.Done 0)) ∙ gate-passed (gate-plan (allowedIn f) s T B) _ (test-passed (eqb w 0 || eqb h 0) Answer.Sheet _ refl ok .2) in
       let a = shows (all-showable true f given S T B q) in
       let k = numbered p i in
       ap (λ (n : Node). valid (n .title)) (sym (k .2)) ∙ a .sound (k .0) (omega (arith, k .1, a .nodes))

@@ -6,7 +6,7 @@ ghost use lib.ListN.{length};
 ghost use Rattle.rules.specs.Look.{lookOf};
 ghost use Rattle.rules.specs.Standin.{standinOf};
 ghost use Rattle.rules.specs.Sheets.{sheetsDrawing, sheetsCanvasAfter, sheetsOutAfter};
-ghost use Rattle.tree_format.specs.Drawn.{nothing, Written};
+ghost use Rattle.tree_format.specs.Drawn.{Written};
 ghost use Rattle.sheets.specs.Cut.{sheetsIn, Ready};
 use crate::count;
 use crate::walk;
@@ -15,18 +15,6 @@ use rules::Answer;
 use rules::Drawing;
 use rules::Measure;
 use rules::Profile;
-
-// An answer without sheets.
-fn unwritten(answer: Answer) -> Drawing
-    ensures { λ r. ⌜ r ≡ nothing answer ⌝ }
-{
-    Drawing {
-        answer,
-        width: 0,
-        height: 0,
-        untitled: 0,
-    }
-}
 
 // A sheet of this size has no cell.
 fn hollow(width: usize, height: usize) -> bool
@@ -45,7 +33,7 @@ fn written(cells: &[u32], cut: Cut, untitled: usize, out: &mut [u8]) -> Drawing
 {
     let need = count::needed(cells, cut, out.len());
     if out.len() < need {
-        return unwritten(Answer::Room(need));
+        return tree_format::undrawn(Answer::Room(need));
     }
     let bytes = walk::all(out, cells, cut);
     Drawing {
@@ -74,7 +62,7 @@ pub fn sheets<'a>(
     ensures out_left { λ r. ⌜ now (out .exit) ≡ sheetsOutAfter (lookOf measure profile) width height (standinOf given (now (standin .entry))) (now (table .entry)) (now (titles .entry)) (length (now (canvas .entry))) (now (out .entry)) ⌝ }
 {
     if hollow(width, height) {
-        return unwritten(Answer::Sheet);
+        return tree_format::undrawn(Answer::Sheet);
     }
     let painted = tree_format::paint(table, titles, given, standin, measure, profile, canvas);
     let answer = painted.answer;

@@ -2,18 +2,18 @@
 -- all its rows are known from the tally.
 use mathlib.Core.Path.{_≡_, refl, ap, sym, _∙_}
 use mathlib.Core.Bool.{Bool, true, false, _&&_, _||_}
-use Prim.Native.Nat.{ℕ, suc, zero, _+_, _*_, _-_, _≤_, _<_, min, max}
+use Prim.Native.Nat.{ℕ, suc, zero, _+_, _*_, _-_, _≤_, _<_, min}
 use native.Mathlib.Omega.{arith}
 use native.Mathlib.Decide.{decLe}
-use native.Mathlib.Numerals.{add-one}
-use lib.Dec.{leb, ltb, eqb}
+use lib.Dec.{ltb}
 use borrow.Author.Tests.{lt-ltb, le-ltb, eq-eqb, ne-eqb, le-leb, lt-leb}
 use Rattle.rules.specs.Base.{pick, total}
+use Rattle.rules.proofs.Lists.{total-same}
 use Rattle.marks.specs.Spot.{Spot}
 use Rattle.size_laws.specs.declared.tally.Tally.{Tally}
 use Rattle.size_laws.specs.Sums.{sum}
-use Rattle.size_laws.specs.Columns.{orElse, footEnd, cellEnd, bendEnd, dropEnd, rowEnd, reachFrom, reachTo, fieldMore, reach, taken, untaken, endsFrom, tallied, bandSize}
-use Rattle.size_laws.proofs.Sums.{total-same, total-split, sum-same, sum-const, sum-none, sum-join, sum-one}
+use Rattle.size_laws.specs.Columns.{orElse, footEnd, cellEnd, bendEnd, dropEnd, rowEnd, reachFrom, reachTo, fieldMore, reach, taken, endsFrom, tallied, bandSize}
+use Rattle.size_laws.proofs.Sums.{total-split, sum-same, sum-const, sum-none, sum-join, sum-one}
 use Rattle.size_laws.proofs.Covers.{or-none, or-some, Covered, reach-covers, covered-same}
 
 -- a cell's box holds the band's middle, between the band's top and its bend

@@ -1,25 +1,19 @@
 -- One column of a band and of the gap under it, by plain numbers: the bytes of all its marks after the first ones are those of its box, of
 -- its lines and of its title's letters, and each of its rows ends where the numbers say. Row by row these are the shapes' sums and ends.
-use mathlib.Core.Path.{_≡_, refl, ap, sym, _∙_}
+use mathlib.Core.Path.{_≡_, refl, _∙_}
 use mathlib.Core.List.{List}
 use mathlib.Core.Bool.{Bool, true, false, _&&_, _||_}
-use Prim.Native.Nat.{ℕ, suc, _+_, _*_, _-_, _≤_, _<_, min}
+use Prim.Native.Nat.{ℕ, _+_, _*_, _-_, _≤_, _<_}
 use native.Mathlib.Omega.{arith}
-use native.Mathlib.Decide.{ℕ-discrete, decLe}
-use lib.Dec.{leb, ltb, eqb}
-use borrow.Author.Tests.{lt-ltb, le-ltb, eq-eqb, ne-eqb, le-leb, lt-leb}
 use Rattle.rules.specs.Base.{pick}
 use Rattle.rules.specs.Drawing.{Marks}
 use Rattle.marks.specs.Lawful.{Seen, Lawful}
-use Rattle.marks.specs.Spot.{Spot, spotMark}
-use Rattle.row_shapes.specs.Rows.{wireMark, edgeMark, textMark}
-use Rattle.row_shapes.specs.Shapes.{straight, footWire, bendWire, topEdge, bottomEdge}
-use Rattle.row_shapes.proofs.Spots.{head-row, top-row, bottom-row, text-row-at, foot-row, bend-row, below-row}
+use Rattle.row_shapes.specs.Rows.{wireMark}
+use Rattle.row_shapes.specs.Shapes.{straight, footWire, bendWire}
 use Rattle.size_laws.specs.Sums.{sum, extra}
 use Rattle.size_laws.specs.Even.{Even}
-use Rattle.size_laws.specs.Columns.{Ends, cellEnd, bendEnd, dropEnd, rowEnd, boxMarks, bendMarks, fieldMore}
-use Rattle.size_laws.proofs.Sums.{sum-same, sum-const, sum-none, sum-join, sum-one, sum-add}
-use Rattle.size_laws.proofs.Shapes.{extra-space, ends-none, ends-same, wire-sum, wire-none, wire-at-line, wire-at-next, wire-through, edge-sum, edge-ends, text-sum, text-ends}
+use Rattle.size_laws.specs.Columns.{Ends}
+use Rattle.size_laws.proofs.Shapes.{extra-space, wire-sum, wire-none, wire-at-line, wire-at-next, wire-through}
 
 pub unseen : {k : ℕ} → Seen k → k ≡ 0x20 → ⊥
 unseen s e = absurd (omega (arith, s .above))

@@ -2,25 +2,21 @@
 -- bytes of its rows are what is tallied of its columns.
 use mathlib.Core.Path.{_≡_, refl, ap, sym, _∙_}
 use mathlib.Core.List.{List, [], List·Memᴰ}
-use mathlib.Core.Bool.{Bool, true, false, _&&_, false≢true}
-use Prim.Native.Nat.{ℕ, suc, zero, _+_, _*_, _-_, _/_, _≤_, _<_, min}
+use mathlib.Core.Bool.{true, false, _&&_, false≢true}
+use Prim.Native.Nat.{ℕ, _+_, _*_, _-_, _/_, _≤_, _<_, min}
 use native.Mathlib.Omega.{arith}
-use native.Mathlib.Decide.{ℕ-discrete, decLe}
-use native.Mathlib.Numerals.{add-one}
-use lib.Dec.{eqb, ltb}
 use lib.ListN.{length, getD}
-use borrow.Author.Tests.{eq-eqb, ne-eqb, lt-ltb, le-ltb}
+use borrow.Author.Tests.{eq-eqb}
 use Rattle.rules.specs.Measures as M
 use Rattle.rules.specs.Base.{pick, halfUp, total}
 use Rattle.rules.specs.Utf8.{points, valid}
-use Rattle.rules.specs.Lines.{linesOf}
 use Rattle.rules.specs.Plan.{Node, nodeAt}
 use Rattle.rules.specs.Levels.{Cell, view}
-use Rattle.rules.specs.Measures.{linesIn, lineCount, longest, canvasWidth, canvasHeight, rowOffset, height}
+use Rattle.rules.specs.Measures.{linesIn, lineCount, longest}
 use Rattle.rules.specs.Drawing as D
-use Rattle.rules.specs.Drawing.{Marks, boxLeft, boxTop, boxRight, boxBottom, endOf, rowText, picture}
+use Rattle.rules.specs.Drawing.{Marks, boxLeft, boxTop, boxRight, boxBottom, picture}
 use Rattle.rules.proofs.LinesValid.{lines-valid}
-use Rattle.rules.proofs.Text.{row-same}
+use Rattle.rules.proofs.Lists.{total-same}
 use Rattle.levels.specs.Between.{cellOf}
 use Rattle.marks.specs.Spot.{Spot, spotMark}
 use Rattle.marks.specs.Whole.{markAt}
@@ -28,29 +24,26 @@ use Rattle.marks.specs.Numbers.{Lettered, endAt}
 use Rattle.marks.proofs.Facts as F
 use Rattle.marks.proofs.Boxes.{line-room}
 use Rattle.marks.proofs.Points.{getD-mem}
-use Rattle.marks.proofs.Picture.{Laid, laid, closed}
-use Rattle.marks.proofs.Spots.{Boxed, spot-field, mark-block}
-use Rattle.tree_view.specs.Box.{leftOf, rightOf, topOf, bottomOf}
+use Rattle.marks.proofs.Picture.{Laid, laid}
+use Rattle.marks.proofs.Spots.{spot-field, mark-block}
 use Rattle.tree_view.proofs.Limits.{columns-le}
-use Rattle.row_strips.specs.Row.{Row, RowOf, some, seenTo}
+use Rattle.row_strips.specs.Row.{Row, RowOf, some}
 use Rattle.row_strips.specs.Parts.{columnFrom, rowFrom}
-use Rattle.row_strips.specs.Strip.{sizeOf, spotIn, Apt}
+use Rattle.row_strips.specs.Strip.{spotIn, Apt}
 use Rattle.row_strips.specs.Known.{Known}
 use Rattle.row_strips.proofs.Tests.{On}
 use Rattle.row_strips.proofs.Ranges.{column-part, row-part, row-stop, column-stop, row-bends}
 use Rattle.row_strips.proofs.Spots.{cell-mem, node-there, spotted, apt}
 use Rattle.size_laws.specs.Sums.{sum, extra}
 use Rattle.size_laws.specs.Even.{Even}
-use Rattle.size_laws.specs.Columns.{Ends, orElse, rowEnd, fieldMore, endsFrom, bandSize}
-use Rattle.size_laws.specs.Size.{tails, ownOf, ownIn, tallyIn, rowsBytes}
-use Rattle.size_laws.proofs.Sums.{total-same, sum-same, sum-join, sum-add, sum-const, sum-total, sum-from, sum-parts}
+use Rattle.size_laws.specs.Columns.{Ends, rowEnd, fieldMore}
+use Rattle.size_laws.specs.Size.{tails, ownOf, ownIn}
 use Rattle.size_laws.proofs.Field.{Beside, Amid, field-more, field-ends}
-use Rattle.size_laws.proofs.Bands.{Fit, mores, band-ends}
-use Rattle.size_laws.proofs.Rows.{row-length, end-columns}
+use Rattle.size_laws.proofs.Bands.{Fit}
 use Rattle.size_laws.proofs.Titles.{line-extra, lines-tails}
 
-module _ {len : List ℕ → ℕ} {marks : Marks} {p : List Node} {w h : ℕ} {T : List ℕ} {nodes : ℕ} {C L G cx xs : List ℕ} {ncols : ℕ} {cy ys : List ℕ} {nrows : ℕ}
-    (q : Known len marks p w h T nodes C L G cx xs ncols cy ys nrows) {e : ℕ} (ev : Even marks e)
+module _ {len : List ℕ → ℕ} {marks : Marks} {p : List Node} {w h : ℕ} {T : List ℕ} {nodes : ℕ} {C L G cx xs : List ℕ} {ncols : ℕ} {ys : List ℕ} {nrows : ℕ}
+    (q : Known len marks p w h T nodes C L G cx xs ncols ys nrows) {e : ℕ} (ev : Even marks e)
     (sound : (k : ℕ) → k < length p → valid (nodeAt p k .title) ≡ true) where
   drawn : Laid (view p)
   drawn = laid len marks p (q .drawable)
@@ -77,7 +70,7 @@ module _ {len : List ℕ → ℕ} {marks : Marks} {p : List Node} {w h : ℕ} {T
       ∙ line-extra l (longest len c) (lines-valid (c .title) v l i) (line-room len marks (q .lawful) c l i)))
       ∙ lines-tails (c .title))
 
-  module _ (i : ℕ) (hi : i < view p .rows) (r : Row) (o : RowOf T nodes C L ncols cy ys nrows h i r) where
+  module _ (i : ℕ) (hi : i < view p .rows) (r : Row) (o : RowOf T nodes C L ncols ys nrows h i r) where
     -- ---- one column
     module _ (j : ℕ) (hj : j < view p .columns) where
       abbrev a : ℕ

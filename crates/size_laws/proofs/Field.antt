@@ -1,12 +1,12 @@
 -- One column of a band and of the gap under it, all its rows together: the bytes of its marks and letters after the first ones, and the end
 -- of each row. From the top down there are the line to the box, its border, its text, its border, the lines from it, the bend, and the line on.
-use mathlib.Core.Path.{_≡_, refl, ap, sym, _∙_}
+use mathlib.Core.Path.{_≡_, refl, ap, _∙_}
 use mathlib.Core.List.{List}
 use mathlib.Core.Bool.{Bool, true, false, _&&_, _||_}
 use Prim.Native.Nat.{ℕ, suc, _+_, _*_, _-_, _≤_, _<_, min}
 use native.Mathlib.Omega.{arith}
 use native.Mathlib.Decide.{ℕ-discrete, decLe}
-use lib.Dec.{leb, ltb, eqb}
+use lib.Dec.{ltb, eqb}
 use borrow.Author.Tests.{lt-ltb, le-ltb, eq-eqb, ne-eqb, le-leb, lt-leb}
 use Rattle.rules.specs.Base.{pick}
 use Rattle.rules.specs.Drawing.{Marks}

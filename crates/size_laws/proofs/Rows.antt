@@ -2,14 +2,12 @@
 -- have none. Where a row ends is known from where it ends in each of its columns.
 use mathlib.Core.Path.{_≡_, refl, ap, sym, _∙_}
 use mathlib.Core.List.{List, [], _∷_, _++_}
-use mathlib.Core.Bool.{Bool, true, false}
 use Prim.Native.Nat.{ℕ, suc, zero, _+_, _*_, _-_, _≤_, _<_}
 use native.Mathlib.Omega.{arith}
 use native.Mathlib.Decide.{ℕ-discrete, decLe}
 use native.Mathlib.Numerals.{add-one}
-use lib.Dec.{eqb}
 use lib.ListN.{length, length-append}
-use Rattle.rules.specs.Base.{pick, each, total}
+use Rattle.rules.specs.Base.{each, total}
 use Rattle.rules.specs.Utf8.{utf8}
 use Rattle.rules.specs.Drawing.{endOf, rowText, textOf}
 use Rattle.rules.proofs.Codec.{utf8-size}
@@ -17,7 +15,6 @@ use Rattle.rules.proofs.Text.{end-space, end-mark}
 use Rattle.marks.specs.Spot.{Spot}
 use Rattle.size_laws.specs.Sums.{extra}
 use Rattle.size_laws.specs.Columns.{Ends, orElse, rowEnd, endsFrom}
-use Rattle.size_laws.proofs.Sums.{total-same}
 use Rattle.size_laws.proofs.Shapes.{extra-space}
 use Rattle.size_laws.proofs.Covers.{or-none, or-some}
 

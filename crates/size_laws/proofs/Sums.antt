@@ -4,12 +4,8 @@ use Prim.Native.Nat.{ℕ, suc, zero, _+_, _*_, _-_, _≤_, _<_}
 use native.Mathlib.Numerals.{add-one}
 use native.Mathlib.Omega.{arith}
 use Rattle.rules.specs.Base.{total}
+use Rattle.rules.proofs.Lists.{total-same}
 use Rattle.size_laws.specs.Sums.{sum}
-
-pub total-same : (f g : ℕ → ℕ) (n : ℕ) → ((k : ℕ) → k < n → f k ≡ g k) → total f n ≡ total g n
-unfolding total
-total-same f g zero e = refl
-total-same f g (suc n) e = rw (total-same f g n (λ k h. e k (omega arith)), e n (omega arith))
 
 pub total-const : (f : ℕ → ℕ) (c n : ℕ) → ((k : ℕ) → k < n → f k ≡ c) → total f n ≡ n * c
 unfolding total
@@ -30,12 +26,6 @@ pub total-swap : (f : ℕ → ℕ → ℕ) (m n : ℕ) → total (λ k. total (�
 unfolding total
 total-swap f m zero = sym (total-const (λ j. total (λ k. f j k) 0) 0 m (λ k h. refl) ∙ omega arith)
 total-swap f m (suc n) = rw (total-swap f m n) (sym (total-add (λ j. total (λ k. f j k) n) (λ j. f j n) m))
-
--- the first one apart
-pub total-head : (f : ℕ → ℕ) (n : ℕ) → total f (suc n) ≡ f 0 + total (λ k. f (suc k)) n
-unfolding total
-total-head f zero = omega arith
-total-head f (suc n) = omega (arith, total-head f n)
 
 pub sum-same : (f g : ℕ → ℕ) (a b : ℕ) → ((x : ℕ) → a ≤ x → x < b → f x ≡ g x) → sum f a b ≡ sum g a b
 unfolding sum

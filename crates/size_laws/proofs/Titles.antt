@@ -1,12 +1,11 @@
 -- The letters of a title: their bytes after the first ones are the title's bytes that begin no code point. A line's letters encode to the
 -- line, each has one byte that begins it, and 0A is such a byte.
-use mathlib.Core.Path.{_≡_, refl, ap, sym, _∙_}
+use mathlib.Core.Path.{_≡_, refl, ap, _∙_}
 use mathlib.Core.List.{List, [], _∷_, _++_}
-use mathlib.Core.Bool.{Bool, true, false}
-use Prim.Native.Nat.{ℕ, suc, zero, _+_, _*_, _-_, _≤_, _<_}
+use mathlib.Core.Bool.{true}
+use Prim.Native.Nat.{ℕ, _+_, _*_, _-_, _≤_, _<_}
 use native.Mathlib.Omega.{arith}
 use native.Mathlib.Decide.{ℕ-discrete}
-use lib.Dec.{eqb}
 use lib.ListN.{length, getD, length-append, List·getD-eq-default}
 use borrow.Author.Tests.{eq-eqb, ne-eqb}
 use Rattle.rules.specs.Base.{pick, concat, total}
@@ -14,11 +13,12 @@ use Rattle.rules.specs.Utf8.{utf8, points, valid}
 use Rattle.rules.specs.Lines.{linesOf, onto}
 use Rattle.rules.proofs.CharsBack.{utf8-points}
 use Rattle.rules.proofs.Lines.{linesOf-some}
+use Rattle.rules.proofs.Lists.{total-head}
 use Rattle.utf8.specs.Begun.{begun, beginsOne}
 use Rattle.utf8.proofs.Begun.{begun-points, begun-most, begins-low, begins-most}
 use Rattle.size_laws.specs.Sums.{extra}
 use Rattle.size_laws.specs.Size.{tails}
-use Rattle.size_laws.proofs.Sums.{total-head, total-same, total-const, total-split}
+use Rattle.size_laws.proofs.Sums.{total-const, total-split}
 use Rattle.size_laws.proofs.Shapes.{extra-space}
 use Rattle.size_laws.proofs.Rows.{utf8-extra}
 

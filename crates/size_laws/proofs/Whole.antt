@@ -3,19 +3,19 @@
 use mathlib.Core.Path.{_≡_, refl, ap, sym, _∙_}
 use mathlib.Core.List.{List}
 use mathlib.Core.Bool.{true}
-use Prim.Native.Nat.{ℕ, suc, zero, _+_, _*_, _-_, _/_, _≤_, _<_, min}
+use Prim.Native.Nat.{ℕ, _+_, _*_, _-_, _/_, _≤_, _<_, min}
 use native.Mathlib.Omega.{arith}
-use native.Mathlib.Numerals.{add-one}
 use lib.ListN.{length, getD}
 use Rattle.rules.specs.Measures as M
 use Rattle.rules.specs.Base.{total}
 use Rattle.rules.specs.Utf8.{valid}
 use Rattle.rules.specs.Plan.{Node, nodeAt}
 use Rattle.rules.specs.Levels.{view}
-use Rattle.rules.specs.Measures.{canvasWidth, canvasHeight, rowOffset, height, columnOffset}
+use Rattle.rules.specs.Measures.{canvasWidth, canvasHeight, rowOffset, columnOffset}
 use Rattle.rules.specs.Drawing as D
-use Rattle.rules.specs.Drawing.{Marks, endOf, rowText, textOf, picture, text}
+use Rattle.rules.specs.Drawing.{Marks, endOf, rowText, picture, text}
 use Rattle.rules.proofs.Text.{row-same}
+use Rattle.rules.proofs.Lists.{total-same}
 use Rattle.marks.specs.Spot.{Spot}
 use Rattle.marks.specs.Whole.{markAt}
 use Rattle.marks.specs.Numbers.{endAt}
@@ -24,19 +24,19 @@ use Rattle.row_strips.specs.Row.{Row, RowOf}
 use Rattle.row_strips.specs.Parts.{columnFrom, rowFrom}
 use Rattle.row_strips.specs.Strip.{spotIn}
 use Rattle.row_strips.specs.Known.{Known}
-use Rattle.row_strips.proofs.Ranges.{column-part, row-part, row-stop, row-last, column-last, row-bends}
+use Rattle.row_strips.proofs.Ranges.{column-part, row-part, row-stop, row-last, column-last, row-bends, row-middles}
 use Rattle.size_laws.specs.Sums.{sum, extra}
 use Rattle.size_laws.specs.Even.{Even}
-use Rattle.size_laws.specs.Columns.{Ends, orElse, rowEnd, fieldMore, endsFrom, bandSize}
+use Rattle.size_laws.specs.Columns.{orElse, fieldMore, endsFrom, bandSize}
 use Rattle.size_laws.specs.Size.{headEnd, ownIn, tallyIn, rowsBytes}
-use Rattle.size_laws.proofs.Sums.{total-same, sum-same, sum-join, sum-add, sum-const, sum-total, sum-from, sum-one, sum-parts}
-use Rattle.size_laws.proofs.Bands.{Fit, mores, band-ends}
+use Rattle.size_laws.proofs.Sums.{sum-same, sum-join, sum-add, sum-const, sum-total, sum-from, sum-one, sum-parts}
+use Rattle.size_laws.proofs.Bands.{mores, band-ends}
 use Rattle.size_laws.proofs.Rows.{row-length, end-columns, text-length}
 use Rattle.size_laws.proofs.Drawn.{starts, stops, fit, column-more, column-ends}
 use Rattle.size_laws.proofs.Outside.{margin-extra, margin-end, row-0, row-1, row-2}
 
-module _ {len : List ℕ → ℕ} {marks : Marks} {p : List Node} {w h : ℕ} {T : List ℕ} {nodes : ℕ} {C L G cx xs : List ℕ} {ncols : ℕ} {cy ys : List ℕ} {nrows : ℕ}
-    (q : Known len marks p w h T nodes C L G cx xs ncols cy ys nrows) {e : ℕ} (ev : Even marks e)
+module _ {len : List ℕ → ℕ} {marks : Marks} {p : List Node} {w h : ℕ} {T : List ℕ} {nodes : ℕ} {C L G cx xs : List ℕ} {ncols : ℕ} {ys : List ℕ} {nrows : ℕ}
+    (q : Known len marks p w h T nodes C L G cx xs ncols ys nrows) {e : ℕ} (ev : Even marks e)
     (sound : (k : ℕ) → k < length p → valid (nodeAt p k .title) ≡ true) where
   drawn : Laid (view p)
   drawn = laid len marks p (q .drawable)
@@ -71,7 +71,7 @@ module _ {len : List ℕ → ℕ} {marks : Marks} {p : List Node} {w h : ℕ} {T
       let m = sum-from f (cut 0) ∙ ap (total f) cut-first ∙ margin-extra len marks (view p) (q .lawful) (drawn .proper-view) (drawn .rising-view) (drawn .few-rows) ev y b in
       omega (arith, sum-from f W, j, m, rw l at (s .1))
 
-  module _ (i : ℕ) (hi : i < view p .rows) (r : Row) (o : RowOf T nodes C L ncols cy ys nrows h i r) where
+  module _ (i : ℕ) (hi : i < view p .rows) (r : Row) (o : RowOf T nodes C L ncols ys nrows h i r) where
     abbrev S : ℕ → Spot
     S = spotIn r L G cx
 
@@ -114,7 +114,7 @@ module _ {len : List ℕ → ℕ} {marks : Marks} {p : List Node} {w h : ℕ} {T
     spread =
         let d = row-part len marks (view p) i hi in
         let t = o .top-is ∙ q .numbers .y-is i hi in
-        let m = o .middle-is ∙ q .numbers .cy-is i hi ∙ d .middle in
+        let m = o .middle-is ∙ row-middles len marks (view p) (q .numbers) i hi ∙ d .middle in
         let b = o .bend-is ∙ row-bends len marks (view p) (q .numbers) i hi in
         (omega arith, omega (arith, end-is, d .to-least), omega (arith, end-is, d .to-least))
 

@@ -1,7 +1,7 @@
 -- What one column of a band adds: where its rows end, and how many marks stand in it, by the numbers of its spot alone.
 -- Words for laws and contracts, no rule.
 use mathlib.Core.Path.{_≡_}
-use mathlib.Core.Bool.{Bool, _&&_, _||_}
+use mathlib.Core.Bool.{_&&_, _||_}
 use Prim.Native.Nat.{ℕ, suc, zero, _+_, _*_, _-_, _≤_, _<_, min, max}
 use lib.Dec.{leb, ltb, eqb}
 use Rattle.rules.specs.Base.{pick}

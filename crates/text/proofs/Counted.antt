@@ -1,5 +1,5 @@
 -- What is counted of a valid line is its length by the measure; and no count is greater than the bytes.
-use mathlib.Core.Path.{_≡_, refl, sym}
+use mathlib.Core.Path.{_≡_, refl}
 use mathlib.Core.Bool.{true}
 use mathlib.Core.List.{List, [], _∷_, _++_, List·Memᴰ, List·Memᴰ·head, List·Memᴰ·tail}
 use Prim.Native.Nat.{ℕ, _≤_, max}
@@ -12,7 +12,6 @@ use Rattle.rules.specs.Look.{lenOf}
 use Rattle.rules.specs.declared.Measure.{Measure}
 use Rattle.rules.proofs.LinesValid.{lines-valid}
 use Rattle.rules.proofs.Codec.{points-length}
-use Rattle.utf8.specs.Begun.{begun}
 use Rattle.text.specs.Counted.{counted}
 use Rattle.utf8.proofs.Begun.{begun-points, begun-most}
 

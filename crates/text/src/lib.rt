@@ -9,4 +9,5 @@ pub use number::digit;
 pub use number::digits;
 pub use number::greater;
 pub use number::longer;
+pub use number::shorter;
 pub use number::wide;

@@ -1,6 +1,6 @@
 // Numbers: small steps that every crate above shares, and the decimal digits of an index.
 ghost use mathlib.Core.Path.{_≡_};
-ghost use Prim.Native.Nat.{_<_, _≤_, max};
+ghost use Prim.Native.Nat.{_<_, _≤_, max, min};
 ghost use lib.ListN.{length, getD};
 ghost use Rattle.rules.specs.Lines as rule;
 
@@ -29,6 +29,16 @@ pub fn longer(a: usize, b: usize) -> usize
         return b;
     }
     a
+}
+
+// The lesser of two lengths.
+pub fn shorter(a: usize, b: usize) -> usize
+    ensures { λ r. ⌜ r ≡ min a b ⌝ }
+{
+    if a < b {
+        return a;
+    }
+    b
 }
 
 // How many decimal digits an index has: it is below 256, so one, two or three.

@@ -1,7 +1,6 @@
 -- The bands, one after another: each one's bytes are added, and with those of the rows above them they are the text's length.
-use mathlib.Core.Path.{_≡_, refl, ap, sym, _∙_}
+use mathlib.Core.Path.{_≡_, refl, sym, _∙_}
 use mathlib.Core.List.{List}
-use mathlib.Core.Bool.{Bool}
 use Prim.Native.Nat.{ℕ, suc, zero, _+_, _*_, _-_, _≤_, _<_}
 use native.Mathlib.Omega.{arith}
 use native.Mathlib.Nat.{mul-comm}
@@ -14,7 +13,8 @@ use Rattle.rules.specs.Lines.{digits}
 use Rattle.rules.specs.Plan.{Node}
 use Rattle.rules.specs.Levels.{view}
 use Rattle.rules.specs.Measures.{canvasWidth, canvasHeight}
-use Rattle.rules.specs.Drawing.{Marks, picture, textOf, text}
+use Rattle.rules.specs.Drawing.{Marks, picture, text}
+use Rattle.rules.specs.Look.{lenOf, marksIn}
 use Rattle.rules.proofs.Text.{text-bound}
 use Rattle.levels.specs.Shown.{planShown}
 use Rattle.levels.proofs.Shown.{shows}
@@ -50,9 +50,15 @@ pub record Upto (f : ℕ → ℕ) (T C L : List ℕ) (nodes nrows i sum : ℕ) (
   pub on-long : length on ≡ 256
   pub summed : sum ≡ total f i
 
-module _ {n : Numbers} {len : List ℕ → ℕ} {marks : Marks} {given : Bool} {S T B C L G cx xs cy ys : List ℕ} (q : Told n len marks given S T B C L G cx xs cy ys) where
+module _ {n : Numbers} {S T B C L G cx xs ys : List ℕ} (q : Told n S T B C L G cx xs ys) where
+  abbrev len : List ℕ → ℕ
+  len = lenOf (n .style .measure)
+
+  abbrev marks : Marks
+  marks = marksIn (n .style .marks)
+
   abbrev p : List Node
-  p = planShown given S T B
+  p = planShown (n .style .given) S T B
 
   abbrev bytes : ℕ → ℕ
   bytes i = rowsBytes len marks p (rowFrom (view p) i) (rowFrom (view p) (i + 1))
@@ -68,11 +74,11 @@ module _ {n : Numbers} {len : List ℕ → ℕ} {marks : Marks} {given : Bool} {
   -- ---- one band
   module _ (i : ℕ) (hi : i < n .nrows) (above here next on : List ℕ) (ea : above ≡ cellsIn T C L i (n .nodes)) (eh : here ≡ cellsIn T C L (i + 1) (n .nodes))
       (en : next ≡ cellsIn T C L (i + 2) (n .nodes)) (eo : (j : ℕ) → j < n .ncols → getD on j 0 ≡ goesIn here next j (n .ncols - 1 - j))
-      (e : ℕ) (ee : e ≡ extra (marks .─)) (at : Place) (ep : at ≡ placeAt n cy ys i e given) where
-    cells-are : RowOf T (n .nodes) C L (n .ncols) cy ys (n .nrows) (n .height) i (rowAt above here next on (placeAt n cy ys i (extra (marks .─)) given))
+      (e : ℕ) (ee : e ≡ extra (marks .─)) (at : Place) (ep : at ≡ placeAt n ys i e) where
+    cells-are : RowOf T (n .nodes) C L (n .ncols) ys (n .nrows) (n .height) i (rowAt above here next on (placeAt n ys i (extra (marks .─))))
     cells-are = record { above-is = ea; here-is = eh; next-is = en; on-is = eo; top-is = refl; end-is = refl; bend-is = refl; middle-is = refl }
 
-    across-it : (at′ : Place) → at′ ≡ placeAt n cy ys i (extra (marks .─)) given → Across S T B L G cx xs above here next on at′
+    across-it : (at′ : Place) → at′ ≡ placeAt n ys i (extra (marks .─)) → Across S T B L G cx xs above here next on at′
     across-it at′ z =
         rw z
         (record {
@@ -83,7 +89,6 @@ module _ {n : Numbers} {len : List ℕ → ℕ} {marks : Marks} {given : Bool} {
           nrows = n .nrows;
           i = i;
           column = C;
-          cy = cy;
           ys = ys;
           showable = q .showable;
           known = q .known;
@@ -99,7 +104,7 @@ module _ {n : Numbers} {len : List ℕ → ℕ} {marks : Marks} {given : Bool} {
     pub band-is : (r : ℕ) → r ≡ bandSize (at .e) (getD xs 0 0 - 1) (at .top) (at .end) (at .bend) (tallyIn (planShown (at .given) S T B) (rowAt above here next on at) L G cx xs (at .ncols) (at .width) (at .e) 0 (at .ncols))
         → r ≡ bytes i
     band-is r h =
-        let a = placeAt n cy ys i (extra (marks .─)) given in
+        let a = placeAt n ys i (extra (marks .─)) in
         let z : at ≡ a = rw ee at ep in
         let w = across-it a refl in
         (rw z at h) ∙ rw (margin-is w .0)

@@ -1,13 +1,12 @@
 -- The columns of a row, from the right: what is tallied of those from j on, and one more.
-use mathlib.Core.Path.{_≡_, refl, ap, sym, _∙_}
+use mathlib.Core.Path.{_≡_, refl, _∙_}
 use mathlib.Core.List.{List}
-use Prim.Native.Nat.{ℕ, suc, zero, _+_, _*_, _-_, _≤_, _<_, min}
+use Prim.Native.Nat.{ℕ, suc, _+_, _*_, _-_, _≤_, _<_, min}
 use native.Mathlib.Omega.{arith}
 use lib.ListN.{getD}
 use Rattle.rules.specs.Base.{first}
 use Rattle.rules.specs.Plan.{Node}
 use Rattle.levels.specs.Shown.{planShown}
-use Rattle.marks.specs.Spot.{Spot}
 use Rattle.marks.specs.Numbers.{endAt}
 use Rattle.row_shapes.specs.Plain.{plain}
 use Rattle.row_strips.specs.Row.{Row, some}
@@ -20,8 +19,7 @@ use Rattle.size_laws.proofs.Bands.{covers}
 use Rattle.size_laws.proofs.Drawn.{fit}
 use Rattle.size_tally.specs.Slight.{Kept, Grown}
 use Rattle.text_size.specs.declared.across.Place.{Place}
-use Rattle.text_size.specs.declared.across.Joint.{Joint}
-use Rattle.text_size.specs.Across.{jointBy, spotAt, Asks, rowAt, Across}
+use Rattle.text_size.specs.Across.{jointBy, spotAt, rowAt, Across}
 use Rattle.text_size.proofs.Columns.{row-ends, sizes, sound, spot-is}
 
 pub record Going (p : List Node) (r : Row) (L G cx xs : List ℕ) (ncols width e j : ℕ) (t : Tally) : Type 0 where

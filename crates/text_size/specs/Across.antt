@@ -1,17 +1,16 @@
 -- A row of cells, and one column of it, as the code that tallies them holds them. Words for contracts, no rule.
 use mathlib.Core.Path.{_≡_}
 use mathlib.Core.List.{List}
-use mathlib.Core.Bool.{Bool, true, not, _&&_}
+use mathlib.Core.Bool.{true, not, _&&_}
 use Prim.Native.Nat.{ℕ, _+_, _*_, _/_, _^_, _≤_, _<_, min}
 use lib.Dec.{leb, eqb}
-use lib.ListN.{length, getD}
+use lib.ListN.{getD}
 use Rattle.rules.specs.Base.{halfUp}
 use Rattle.rules.specs.Plan.{count}
 use Rattle.rules.specs.Drawing.{Marks}
 use Rattle.levels.specs.Shown.{planShown, Showable}
 use Rattle.marks.specs.Spot as Rules
 use Rattle.row_shapes.specs.declared.spot.Spot.{Spot}
-use Rattle.row_shapes.specs.Plain.{plain}
 use Rattle.row_strips.specs.Row.{Row, RowOf, some, rowBy}
 use Rattle.row_strips.specs.Strip.{sizeOf, spotOf}
 use Rattle.row_strips.specs.Known.{Known}
@@ -57,11 +56,10 @@ pub record Across (S T B lines longest cx xs above here next on : List ℕ) (at 
   pub nrows : ℕ
   pub i : ℕ
   pub column : List ℕ
-  pub cy : List ℕ
   pub ys : List ℕ
   pub showable : Showable (at .given) S T B
-  pub known : Known len marks (planShown (at .given) S T B) (at .width) height T nodes column lines longest cx xs (at .ncols) cy ys nrows
+  pub known : Known len marks (planShown (at .given) S T B) (at .width) height T nodes column lines longest cx xs (at .ncols) ys nrows
   pub row-in : i < nrows
-  pub cells : RowOf T nodes column lines (at .ncols) cy ys nrows height i (rowAt above here next on at)
+  pub cells : RowOf T nodes column lines (at .ncols) ys nrows height i (rowAt above here next on at)
   pub area : at .width * height ≤ 1048576
   pub even : Even marks (at .e)

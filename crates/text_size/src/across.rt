@@ -2,11 +2,8 @@
 ghost use mathlib.Core.Path.{_≡_};
 ghost use Prim.Native.Nat.{_≤_, _<_};
 ghost use lib.ListN.{getD};
-ghost use Rattle.rules.specs.Base as base;
 ghost use Rattle.levels.specs.Shown.{planShown};
 ghost use Rattle.row_shapes.specs.Plain.{plain};
-ghost use Rattle.row_strips.specs.Row.{some};
-ghost use Rattle.row_strips.specs.Strip.{sizeOf};
 ghost use Rattle.size_laws.specs.Columns.{taken};
 ghost use Rattle.size_laws.specs.Size.{ownOf, tallyIn};
 ghost use Rattle.size_tally.specs.Slight.{Kept, Grown};
@@ -34,21 +31,6 @@ pub struct Joint {
     pub on: bool,
 }
 
-// The first of n columns that has a cell; n if none has.
-fn first_cell(cells: &[u16; 256], n: usize) -> usize
-    requires { ⌜ n ≤ 256 ⌝ }
-    ensures { λ r. ⌜ r ≡ base.first (λ j. some (now (cells .entry)) j) n ⌝ }
-{
-    let mut j = 0;
-    while j < n {
-        if cells[j] != 0 {
-            return j;
-        }
-        j += 1;
-    }
-    n
-}
-
 // Column j, `first` and `over` being the first columns with a cell of the row and of the one above.
 fn joint_at(
     j: usize,
@@ -69,17 +51,6 @@ fn joint_at(
         child: seen & (next[j] != 0),
         on: seen & (on[j] != 0),
     }
-}
-
-// What a list has of node k - 1; 0 where k is 0.
-fn size_of(sizes: &[u32; 256], k: usize) -> u32
-    requires { ⌜ k ≤ 256 ⌝ }
-    ensures { λ r. ⌜ r ≡ sizeOf (now (sizes .entry)) k ⌝ }
-{
-    if k == 0 {
-        return 0;
-    }
-    sizes[k - 1]
 }
 
 // One column more, from a up to b, with its centre at x. (Most columns of a row have nothing in them.)
@@ -111,8 +82,8 @@ fn step<'a>(
         at.bend,
         x,
         at.middle,
-        size_of(lines, q.k),
-        size_of(longest, q.k),
+        row_strips::size_of(lines, q.k),
+        row_strips::size_of(longest, q.k),
     );
     size_tally::take(t, s, at.e, at.top, at.end, a, b, own)
 }
@@ -136,8 +107,8 @@ pub(crate) fn tally<'a>(
     ensures { λ r. ⌜ (r ≡ tallyIn (planShown (at .given) (now (standin .entry)) (now (table .entry)) (now (titles .entry))) (rowAt (now (above .entry)) (now (here .entry)) (now (next .entry)) (now (on .entry)) at) (now (lines .entry)) (now (longest .entry)) (now (cx .entry)) (now (xs .entry)) (at .ncols) (at .width) (at .e) 0 (at .ncols)) × Kept r ⌝ }
 {
     let n = text::wide(at.ncols);
-    let first = first_cell(here, n);
-    let over = first_cell(above, n);
+    let first = row_strips::first_cell(here, n);
+    let over = row_strips::first_cell(above, n);
     let mut t = Tally {
         lo: at.middle,
         hi: at.middle,

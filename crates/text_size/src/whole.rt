@@ -17,8 +17,9 @@ use crate::across::Place;
 use crate::down;
 use rules::Style;
 
-// How many nodes, columns and rows there are, the canvas' size, and the bytes that are lent for the text.
+// How it is drawn, how many nodes, columns and rows there are, the canvas' size, and the bytes that are lent for the text.
 pub struct Numbers {
+    pub style: Style,
     pub nodes: usize,
     pub ncols: u32,
     pub nrows: u32,
@@ -34,13 +35,13 @@ fn mark_more(v: u32) -> u32
     (utf8::encoded(v) - 1) as u32
 }
 
-// The place of row i.
-fn place_of(n: Numbers, cy: &[u32; 32], ys: &[u32; 32], i: u32, e: u32, given: bool) -> Place
-    requires { ⌜ (i < n .nrows) × (n .nrows ≤ 32) × (n .height < 4294967295) ⌝ }
-    requires { ⌜ (i + 1 < n .nrows → 2 ≤ getD (now ys) (i + 1) 0) ⌝ }
-    ensures { λ r. ⌜ r ≡ placeAt n (now (cy .entry)) (now (ys .entry)) i e given ⌝ }
+// The place of row i, e being the bytes of a mark after its first.
+fn place_of(n: Numbers, ys: &[u32; 32], i: u32, e: u32) -> Place
+    requires { ⌜ (i < n .nrows) × (n .nrows ≤ 32) × (getD (now ys) i 0 ≤ n .height) × (n .height < 4294967295) ⌝ }
+    requires { ⌜ (i + 1 < n .nrows → (getD (now ys) i 0 + 3 ≤ getD (now ys) (i + 1) 0) × (getD (now ys) (i + 1) 0 ≤ n .height)) ⌝ }
+    ensures { λ r. ⌜ r ≡ placeAt n (now (ys .entry)) i e ⌝ }
 {
-    let b = row_strips::band_of(cy, ys, n.nrows, i, n.height);
+    let b = row_strips::band_of(ys, n.nrows, i, n.height);
     Place {
         top: b.top,
         end: b.end,
@@ -49,14 +50,13 @@ fn place_of(n: Numbers, cy: &[u32; 32], ys: &[u32; 32], i: u32, e: u32, given: b
         ncols: n.ncols,
         width: n.width,
         e,
-        given,
+        given: n.style.given,
     }
 }
 
 // All bands and the gaps under them.
 fn bands<'a>(
     n: Numbers,
-    style: Style,
     table: &[u32],
     titles: &'a [u8],
     standin: &'a [u8],
@@ -65,25 +65,24 @@ fn bands<'a>(
     longest: &[u32; 256],
     cx: &[u32; 256],
     xs: &[u32; 256],
-    cy: &[u32; 32],
     ys: &[u32; 32],
 ) -> usize
-    requires { ⌜ Told n (lenOf (style .measure)) (marksIn (style .marks)) (style .given) (now standin) (now table) (now titles) (now column) (now lines) (now longest) (now cx) (now xs) (now cy) (now ys) ⌝ }
-    ensures { λ r. ⌜ r ≡ total (λ i. rowsBytes (lenOf (style .measure)) (marksIn (style .marks)) (planShown (style .given) (now (standin .entry)) (now (table .entry)) (now (titles .entry)))
-        (rowFrom (view (planShown (style .given) (now (standin .entry)) (now (table .entry)) (now (titles .entry)))) i) (rowFrom (view (planShown (style .given) (now (standin .entry)) (now (table .entry)) (now (titles .entry)))) (i + 1))) (n .nrows) ⌝ }
+    requires { ⌜ Told n (now standin) (now table) (now titles) (now column) (now lines) (now longest) (now cx) (now xs) (now ys) ⌝ }
+    ensures { λ r. ⌜ r ≡ total (λ i. rowsBytes (lenOf (n .style .measure)) (marksIn (n .style .marks)) (planShown (n .style .given) (now (standin .entry)) (now (table .entry)) (now (titles .entry)))
+        (rowFrom (view (planShown (n .style .given) (now (standin .entry)) (now (table .entry)) (now (titles .entry)))) i) (rowFrom (view (planShown (n .style .given) (now (standin .entry)) (now (table .entry)) (now (titles .entry)))) (i + 1))) (n .nrows) ⌝ }
 {
     let mut above = [0u16; 256];
     let mut here = [0u16; 256];
     let mut next = [0u16; 256];
     let mut on = [0u16; 256];
-    let e = mark_more(style.marks.horizontal);
+    let e = mark_more(n.style.marks.horizontal);
     row_strips::row_cells(table, n.nodes, column, lines, 1, &mut here);
     let mut sum = 0;
     let mut i = 0;
     while i < n.nrows {
         row_strips::row_cells(table, n.nodes, column, lines, i + 2, &mut next);
         row_strips::onward(&here, &next, n.ncols, &mut on);
-        let at = place_of(n, cy, ys, i, e, style.given);
+        let at = place_of(n, ys, i, e);
         sum += down::one_band(
             at,
             table,
@@ -120,7 +119,6 @@ fn heads(ncols: u32, width: u32, e: u32, x: u32, first: u32) -> usize
 // The bytes of the whole text, of a plan that no refusal meets and whose canvas is not large.
 fn text_size<'a>(
     n: Numbers,
-    style: Style,
     table: &[u32],
     titles: &'a [u8],
     standin: &'a [u8],
@@ -129,19 +127,17 @@ fn text_size<'a>(
     longest: &[u32; 256],
     cx: &[u32; 256],
     xs: &[u32; 256],
-    cy: &[u32; 32],
     ys: &[u32; 32],
 ) -> usize
-    requires { ⌜ Told n (lenOf (style .measure)) (marksIn (style .marks)) (style .given) (now standin) (now table) (now titles) (now column) (now lines) (now longest) (now cx) (now xs) (now cy) (now ys) ⌝ }
-    ensures { λ r. ⌜ r ≡ length (text (lenOf (style .measure)) (marksIn (style .marks)) (planShown (style .given) (now (standin .entry)) (now (table .entry)) (now (titles .entry)))) ⌝ }
+    requires { ⌜ Told n (now standin) (now table) (now titles) (now column) (now lines) (now longest) (now cx) (now xs) (now ys) ⌝ }
+    ensures { λ r. ⌜ r ≡ length (text (lenOf (n .style .measure)) (marksIn (n .style .marks)) (planShown (n .style .given) (now (standin .entry)) (now (table .entry)) (now (titles .entry)))) ⌝ }
 {
-    let e = mark_more(style.marks.horizontal);
+    let e = mark_more(n.style.marks.horizontal);
     let last = text::wide(n.ncols) - 1;
     let above = heads(n.ncols, n.width, e, cx[last], xs[0]);
     above
         + bands(
             n,
-            style,
             table,
             titles,
             standin,
@@ -150,7 +146,6 @@ fn text_size<'a>(
             longest,
             cx,
             xs,
-            cy,
             ys,
         )
 }
@@ -158,7 +153,6 @@ fn text_size<'a>(
 // What the text needs, if that is more than the room. (It is not counted where the room has four bytes for each cell and one for each row.)
 pub fn needed<'a>(
     n: Numbers,
-    style: Style,
     table: &[u32],
     titles: &'a [u8],
     standin: &'a [u8],
@@ -167,18 +161,16 @@ pub fn needed<'a>(
     longest: &[u32; 256],
     cx: &[u32; 256],
     xs: &[u32; 256],
-    cy: &[u32; 32],
     ys: &[u32; 32],
 ) -> usize
-    requires { ⌜ Told n (lenOf (style .measure)) (marksIn (style .marks)) (style .given) (now standin) (now table) (now titles) (now column) (now lines) (now longest) (now cx) (now xs) (now cy) (now ys) ⌝ }
-    ensures { λ r. ⌜ Needed (text (lenOf (style .measure)) (marksIn (style .marks)) (planShown (style .given) (now (standin .entry)) (now (table .entry)) (now (titles .entry)))) (n .room) r ⌝ }
+    requires { ⌜ Told n (now standin) (now table) (now titles) (now column) (now lines) (now longest) (now cx) (now xs) (now ys) ⌝ }
+    ensures { λ r. ⌜ Needed (text (lenOf (n .style .measure)) (marksIn (n .style .marks)) (planShown (n .style .given) (now (standin .entry)) (now (table .entry)) (now (titles .entry)))) (n .room) r ⌝ }
 {
     if 4 * tree_view::area(n.width, n.height) + text::wide(n.height) <= n.room {
         return 0;
     }
     text_size(
         n,
-        style,
         table,
         titles,
         standin,
@@ -187,7 +179,6 @@ pub fn needed<'a>(
         longest,
         cx,
         xs,
-        cy,
         ys,
     )
 }

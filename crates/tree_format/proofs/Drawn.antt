@@ -26,7 +26,7 @@ use Rattle.rules.proofs.Painted.{painted-lets, painted-past, was-stopped}
 use Rattle.levels.specs.Accepted.{afterAll}
 use Rattle.levels.specs.Shown.{planShown, Showable}
 use Rattle.levels.proofs.Refused.{plan-all, all-showable}
-use Rattle.tree_format.specs.Drawn.{nothing, Written, cellsAnswer, sizes, Fills}
+use Rattle.tree_format.specs.Drawn.{nothing, Written, cellsAnswer, Fills}
 
 -- the last step, as its two ends show it
 pub short-of : {t out : List ℕ} {w h u need : ℕ} {r : Drawing} → need ≡ length t → length out < need → r ≡ nothing (Answer.Room need) → Written t out w h u r out

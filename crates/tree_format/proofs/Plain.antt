@@ -5,7 +5,6 @@ use mathlib.Core.List.{List}
 use mathlib.Core.Bool.{Bool, true}
 use Prim.Native.Nat.{ℕ, _<_}
 use native.Mathlib.Omega.{arith}
-use lib.ListN.{length}
 use Rattle.rules.specs.Base.{every}
 use Rattle.rules.specs.Standin.{standinOf}
 use Rattle.rules.specs.Drawing.{plain, text}

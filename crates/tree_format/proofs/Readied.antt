@@ -1,7 +1,6 @@
 -- The arrays that are filled from a table that is not refused hold the numbers of its plan.
 use mathlib.Core.Path.{_≡_, refl, sym, _∙_}
 use mathlib.Core.List.{List}
-use mathlib.Core.Bool.{Bool}
 use Prim.Native.Nat.{ℕ, _*_, _≤_, _<_}
 use native.Mathlib.Omega.{arith}
 use lib.ListN.{length, getD, replicate}
@@ -10,29 +9,32 @@ use Rattle.rules.specs.Plan.{count, planOf}
 use Rattle.rules.specs.Standin.{standinOf}
 use Rattle.rules.specs.Levels.{view}
 use Rattle.rules.specs.Measures.{columnOffset}
-use Rattle.rules.specs.Drawing.{Marks}
+use Rattle.rules.specs.Look.{lenOf, marksIn}
 use Rattle.rules.proofs.Lists.{first-none}
 use Rattle.rules.proofs.Replaced.{replaced-bad}
 use Rattle.levels.specs.Shown.{planShown, Showable}
 use Rattle.levels.specs.Filled.{filled}
 use Rattle.levels.proofs.Shown.{shows, small}
 use Rattle.marks.specs.Lawful.{Lawful}
-use Rattle.tree_view.specs.Measured.{Short}
+use Rattle.text.proofs.Counted.{len-most}
 use Rattle.tree_view.specs.Sizes.{middleAt}
 use Rattle.row_strips.specs.Known.{Known}
-use Rattle.canvas.specs.declared.draw.Size.{Size}
-use Rattle.tree_format.specs.Sized.{Measured, Laid, Sized, Arrays}
+use Rattle.text_size.specs.declared.whole.Numbers.{Numbers}
+use Rattle.tree_format.specs.Sized.{Measured, Laid, Arrays, centresOf}
 use Rattle.tree_format.proofs.Measures.{column-of, arrays}
 
-pub known : {len : List ℕ → ℕ} {marks : Marks} {given : Bool} {S T B : List ℕ} {nodes : ℕ} {C L G cx xs : List ℕ} {ncols : ℕ} {cy ys : List ℕ} {nrows : ℕ} {size : Size} → Lawful len marks
-    → Short len → Showable given S T B → nodes ≡ count T → 0 < nodes → Measured len T (planShown given S T B) C L G → Laid len (view (planShown given S T B)) cx ncols cy ys nrows
-    → Sized len (view (planShown given S T B)) size → ((j : ℕ) → j < ncols → getD xs j 0 ≡ columnOffset len (view (planShown given S T B)) j)
-    → Known len marks (planShown given S T B) (size .width) (size .height) T nodes C L G cx xs ncols cy ys nrows
-known {len} {marks} {given} {S} {T} {B} {nodes} {C} {L} {G} {cx} {xs} {ncols} ok short a all some m l s offsets =
-    let p = planShown given S T B in
+pub known : {n : Numbers} {S T B C L G cx xs ys : List ℕ} → Lawful (lenOf (n .style .measure)) (marksIn (n .style .marks)) → Showable (n .style .given) S T B → n .nodes ≡ count T → 0 < n .nodes
+    → Measured (lenOf (n .style .measure)) T (planShown (n .style .given) S T B) C L G → Laid n (view (planShown (n .style .given) S T B)) cx ys
+    → ((j : ℕ) → j < n .ncols → getD xs j 0 ≡ columnOffset (lenOf (n .style .measure)) (view (planShown (n .style .given) S T B)) j)
+    → Known (lenOf (n .style .measure)) (marksIn (n .style .marks)) (planShown (n .style .given) S T B) (n .width) (n .height) T (n .nodes) C L G cx xs (n .ncols) ys (n .nrows)
+known {n} {S} {T} {B} {C} {L} {G} {cx} {xs} {ys} ok a all some m l offsets =
+    let p = planShown (n .style .given) S T B in
+    let len = lenOf (n .style .measure) in
+    let short = len-most (n .style .measure) in
     let w = shows a in
-    let n = w .nodes in
-    let r : Arrays len p cx _ _ _ L G = arrays short w m l (filled (middleAt C cx) 0 (count T) (replicate 256 0)) refl in
+    let e = w .nodes in
+    let cy = centresOf (view p) (n .nrows) in
+    let r : Arrays len p cx cy ys _ L G = arrays w m l refl (filled (middleAt C cx) 0 (count T) (replicate 256 0)) refl in
     record {
       lawful = ok;
       short = short;
@@ -40,13 +42,14 @@ known {len} {marks} {given} {S} {T} {B} {nodes} {C} {L} {G} {cx} {xs} {ncols} ok
           record {
             some = omega arith;
             sized = omega (arith, w .few);
-            depths = first-none (badDepth p) (length p) (λ k h. replaced-bad (standinOf given S) (planOf T B) k ∙ a .table .depths k (omega arith));
+            depths = first-none (badDepth p) (length p) (λ k h. replaced-bad (standinOf (n .style .given) S) (planOf T B) k ∙ a .table .depths k (omega arith));
           };
       small = small w;
+      cy = cy;
       numbers =
           record {
-            wide = s .width-is;
-            high = s .height-is;
+            wide = l .width-is;
+            high = l .height-is;
             columns-are = l .count-is;
             rows-are = l .row-count-is;
             cx-is = r .cx-is;
@@ -54,7 +57,7 @@ known {len} {marks} {given} {S} {T} {B} {nodes} {C} {L} {G} {cx} {xs} {ncols} ok
             cy-is = r .cy-is;
             y-is = r .offset-is;
           };
-      counted = all ∙ sym n;
+      counted = all ∙ sym e;
       room = omega (arith, w .whole);
       depths = λ k h. sym (w .depths k);
       columns = λ k h. column-of short w m k (omega arith);

@@ -11,6 +11,7 @@ use Rattle.rules.specs.Drawing.{Marks, canvas}
 use Rattle.rules.specs.Answers.{done, afterCells}
 use Rattle.rules.specs.declared.Answer.{Answer}
 use Rattle.rules.specs.declared.Drawing.{Drawing}
+use Rattle.tree_format.specs.declared.entry.Painted.{Painted}
 
 -- what painting answers of a plan p with u empty titles that no refusal before 7 meets
 abbrev pub cellsAnswer : (len : List ℕ → ℕ) → List Node → (cells : ℕ) → Answer
@@ -31,6 +32,10 @@ pub record Fills (len : List ℕ → ℕ) (marks : Marks) (p : List Node) (u : �
 -- an answer without a drawing
 abbrev pub nothing : Answer → Drawing
 nothing a = record { answer = a; width = 0; height = 0; untitled = 0 }
+
+-- the same where a picture would be
+abbrev pub unpainted : Answer → Painted
+unpainted a = record { drawing = nothing a; need = 0 }
 
 -- the last step: the text t goes into the output, or ROOM tells its length
 pub record Written (t out : List ℕ) (w h u : ℕ) (r : Drawing) (out′ : List ℕ) : Type 0 where

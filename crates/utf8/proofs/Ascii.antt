@@ -1,5 +1,5 @@
 -- Bytes up to 7F are valid by themselves: each is a character. And valid bytes that are no more than their code points are such.
-use mathlib.Core.Path.{_≡_, refl, ap, sym, _∙_}
+use mathlib.Core.Path.{_≡_, refl, ap, _∙_}
 use mathlib.Core.List.{List, [], _∷_}
 use mathlib.Core.Bool.{true}
 use Prim.Native.Nat.{ℕ, suc, zero, _+_, _≤_, _<_}

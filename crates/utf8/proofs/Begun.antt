@@ -5,14 +5,14 @@ use mathlib.Core.List.{List, [], _∷_, _++_}
 use Prim.Native.Nat.{ℕ, suc, zero, _+_, _-_, _/_, _%_, _≤_, _<_}
 use native.Mathlib.Numerals.{add-one}
 use native.Mathlib.Omega.{arith}
-use lib.ListN.{length, getD, take, drop, length-append, length-drop, take-append-drop, drop-of-length-le}
+use lib.ListN.{length, getD, take, drop, length-drop, take-append-drop, drop-of-length-le}
 use lib.Seq.{drop-cons, drop-drop}
 use borrow.Author.Tests.{le-leb, lt-leb}
 use Rattle.rules.specs.Base.{pick}
 use Rattle.rules.specs.Utf8.{tail, span, valid, points, utf8, more}
 use Rattle.rules.proofs.Chars.{tail-in}
 use Rattle.rules.proofs.Codec.{Form, form, one, two, three, four}
-use Rattle.rules.proofs.FirstChar.{FirstChar, first-char}
+use Rattle.rules.proofs.FirstChar.{first-char}
 use Rattle.utf8.specs.Begun.{beginsOne, begun}
 
 pub begins-low : (b : ℕ) → b < 0x80 → beginsOne b ≡ 1

@@ -5,19 +5,13 @@ use lib.Seq.{length-take-le}
 use borrow.Author.Needs.{needs}
 use Rattle.desk.proofs.planned.Statement.{statement}
 use Rattle.desk.proofs.planned.Tie as tie
-use Rattle.desk.proofs.planned.Reads as reads
-use Rattle.desk.proofs.planned.Lts as lts
-use Rattle.desk.proofs.sheet.Reads as sheet-reads
 
--- src/main.rt:109:17
 slice-aggregate-sheet : tie.Need-slice-aggregate-sheet
 slice-aggregate-sheet c = sym (length-take-le _ _ (search needs))
 
--- src/main.rt:110:17
 slice-aggregate-sheet-2 : tie.Need-slice-aggregate-sheet-2
 slice-aggregate-sheet-2 c = sym (length-take-le _ _ (search needs))
 
--- src/main.rt:106:13
 sheet-requires : tie.Need-sheet-requires
 sheet-requires c κs =
     let at-then = c .before .before .before .before .before .before .before in
@@ -25,35 +19,27 @@ sheet-requires c κs =
     let a = known .before .before .before .before .before .before .before .args in
     (omega (arith, length-take-le (a .entries) (a .table .now) (search needs)), search needs, search needs)
 
--- src/main.rt:89:1
 same-length : tie.Need-same-length
 same-length c = search needs
 
--- src/main.rt:89:1
 same-length-2 : tie.Need-same-length-2
 same-length-2 c = search needs
 
--- src/main.rt:89:1
 same-length-3 : tie.Need-same-length-3
 same-length-3 c = search needs
 
--- src/main.rt:89:1
 same-length-4 : tie.Need-same-length-4
 same-length-4 c = search needs
 
--- src/main.rt:89:1
 same-length-5 : tie.Need-same-length-5
 same-length-5 c = search needs
 
--- src/main.rt:89:1
 returns : tie.Need-returns
 returns c = search needs
 
--- src/main.rt:89:1
 returns-2 : tie.Need-returns-2
 returns-2 c = search needs
 
--- src/main.rt:89:1
 returns-3 : tie.Need-returns-3
 returns-3 c = search needs
 

@@ -4,43 +4,31 @@ use Rattle.desk.proofs.Lent.{long}
 use borrow.Author.Needs.{needs}
 use Rattle.desk.proofs.serve.Statement.{statement}
 use Rattle.desk.proofs.serve.Tie as tie
-use Rattle.desk.proofs.serve.Reads as reads
-use Rattle.desk.proofs.serve.Lts as lts
-use Rattle.desk.proofs.run.Reads as run-reads
 
--- src/main.rt:233:9
 slice-aggregate-run : tie.Need-slice-aggregate-run
 slice-aggregate-run c = long 1048577
 
--- src/main.rt:234:9
 slice-aggregate-run-2 : tie.Need-slice-aggregate-run-2
 slice-aggregate-run-2 c = long 1048576
 
--- src/main.rt:235:9
 slice-aggregate-run-3 : tie.Need-slice-aggregate-run-3
 slice-aggregate-run-3 c = search needs
 
--- src/main.rt:236:9
 slice-aggregate-run-4 : tie.Need-slice-aggregate-run-4
 slice-aggregate-run-4 c = search needs
 
--- src/main.rt:237:9
 slice-aggregate-run-5 : tie.Need-slice-aggregate-run-5
 slice-aggregate-run-5 c = search needs
 
--- src/main.rt:238:9
 slice-aggregate-run-6 : tie.Need-slice-aggregate-run-6
 slice-aggregate-run-6 c = search needs
 
--- src/main.rt:239:9
 slice-aggregate-run-7 : tie.Need-slice-aggregate-run-7
 slice-aggregate-run-7 c = long 1572864
 
--- src/main.rt:231:5
 run-requires : tie.Need-run-requires
 run-requires c κs = (search needs, sym (long 1048577), sym (long 771), sym (long 262144), sym (long 262144))
 
--- src/main.rt:221:1
 returns : tie.Need-returns
 returns c = search needs
 

@@ -50,9 +50,10 @@ same-length c = search needs
 
 returns-2 : tie.Need-returns-2
 returns-2 c =
-    let a = c .before .before .before .before .before .before .before .before .before .args in
-    across-back (a .size .width) (a .size .height) (a .x) (a .y) (a .n) (a .mark) (a .cells .now) (c .before .before .fill .last .0)
-    (search needs) (search needs) (c .before .before .fill .ensures)
+    let at-fill = c .before .before in
+    let a = at-fill .before .before .before .before .before .before .before .args in
+    across-back (a .size .width) (a .size .height) (a .x) (a .y) (a .n) (a .mark) (a .cells .now) (at-fill .fill .last .0)
+    (search needs) (search needs) (at-fill .fill .ensures)
 
 pub across-spec : {M : Type 1} → statement M
 across-spec =

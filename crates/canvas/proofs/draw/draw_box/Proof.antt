@@ -43,12 +43,15 @@ same-length c = search needs
 returns : tie.Need-returns
 unfolding frame
 returns c =
-    let a = c .before .before .before .before .before .before .before .before .before .before .before .before .before .before .before .before .before .args in
+    let at-down2 = c .before .before .before .before .before .before in
+    let at-down = at-down2 .before .before .before .before in
+    let at-border = at-down .before .before .before .before in
+    let a = at-border .before .before .before .args in
     let w = a .size .width in
     let h = a .size .height in
     let room : w * h ≤ length (a .cells .now) = search needs in
     then w h _ _ _ _ _ room
-    (then w h _ _ _ _ _ room (then w h _ _ _ _ _ room (c .before .before .before .before .before .before .before .before .before .before .before .before .before .before .border .ensures) (c .before .before .before .before .before .before .before .before .before .before .down .ensures)) (c .before .before .before .before .before .before .down2 .ensures))
+    (then w h _ _ _ _ _ room (then w h _ _ _ _ _ room (at-border .border .ensures) (at-down .down .ensures)) (at-down2 .down2 .ensures))
     (c .before .before .border2 .ensures)
 
 pub draw-box-spec : {M : Type 1} → statement M

@@ -51,9 +51,10 @@ same-length c = search needs
 
 returns-2 : tie.Need-returns-2
 returns-2 c =
-    let a = c .before .before .before .before .before .before .before .before .before .args in
-    written-back (a .size .width) (a .size .height) (a .x) (a .y) (digits (a .n)) (a .cells .now) (c .before .before .figures .last .0)
-    (search needs) (search needs) (c .before .before .figures .ensures)
+    let at-figures = c .before .before in
+    let a = at-figures .before .before .before .before .before .before .before .args in
+    written-back (a .size .width) (a .size .height) (a .x) (a .y) (digits (a .n)) (a .cells .now) (at-figures .figures .last .0)
+    (search needs) (search needs) (at-figures .figures .ensures)
 
 pub index-spec : {M : Type 1} → statement M
 index-spec =

@@ -50,9 +50,10 @@ same-length c = search needs
 
 returns-2 : tie.Need-returns-2
 returns-2 c =
-    let a = c .before .before .before .before .before .before .before .before .before .args in
-    across-back (a .size .width) (a .size .height) (a .x) (a .y) 1 (a .mark) (a .cells .now) (c .before .before .put .last .0)
-    (search needs) (search needs) (c .before .before .put .ensures)
+    let at-put = c .before .before in
+    let a = at-put .before .before .before .before .before .before .before .args in
+    across-back (a .size .width) (a .size .height) (a .x) (a .y) 1 (a .mark) (a .cells .now) (at-put .put .last .0)
+    (search needs) (search needs) (at-put .put .ensures)
 
 pub symbol-spec : {M : Type 1} → statement M
 symbol-spec =

@@ -51,9 +51,10 @@ same-length c = search needs
 
 returns-2 : tie.Need-returns-2
 returns-2 c =
-    let a = c .before .before .before .before .before .before .before .before .before .before .args in
-    written-back (a .size .width) (a .size .height) (a .x) (a .y) (points (a .line .now)) (a .cells .now) (c .before .before .letters .last .0)
-    (search needs) (search needs) (c .before .before .letters .ensures)
+    let at-letters = c .before .before in
+    let a = at-letters .before .before .before .before .before .before .before .before .args in
+    written-back (a .size .width) (a .size .height) (a .x) (a .y) (points (a .line .now)) (a .cells .now) (at-letters .letters .last .0)
+    (search needs) (search needs) (at-letters .letters .ensures)
 
 pub write-line-spec : {M : Type 1} → statement M
 write-line-spec =

@@ -57,7 +57,7 @@ all-requires : tie.Need-all-requires Inv-loop μ-loop
 all-requires c κs = search needs
 
 returns : tie.Need-returns Inv-loop μ-loop
-returns c = c .before .before .before .before .before .before .before .before .before .before .before .loop .inv
+returns c = let at-four-at4 = c .before .before .before .before .before .before in at-four-at4 .before .before .before .before .before .loop .inv
 
 loop-less : tie.Need-loop-less Inv-loop μ-loop
 loop-less c = search needs

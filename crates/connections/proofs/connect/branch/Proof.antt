@@ -1,6 +1,4 @@
 -- One stroke after another.
-use Prim.Native.Nat.{_*_, _≤_}
-use lib.ListN.{length}
 use Rattle.canvas.proofs.Stroked.{then}
 use borrow.Author.Needs.{needs}
 use Rattle.connections.proofs.connect.branch.Statement.{statement}
@@ -18,40 +16,17 @@ sub-across c = search needs
 across-requires : tie.Need-across-requires
 across-requires c κs = search needs
 
-symbol-requires : tie.Need-symbol-requires
-symbol-requires c κs = search needs
-
-add-down : tie.Need-add-down
-add-down c = search needs
-
-add-down-2 : tie.Need-add-down-2
-add-down-2 c = search needs
-
-sub-down : tie.Need-sub-down
-sub-down c = search needs
-
-down-requires : tie.Need-down-requires
-down-requires c κs = search needs
-
-symbol-requires-2 : tie.Need-symbol-requires-2
-symbol-requires-2 c κs = search needs
+plumb-requires : tie.Need-plumb-requires
+plumb-requires c κs = search needs
 
 same-length : tie.Need-same-length
 same-length c = search needs
 
 returns : tie.Need-returns
 returns c =
-    let a = c .before .before .before .before .before .before .before .before .before .before .before .before .before .before .before .before .before .args in
-    let w = a .size .width in
-    let h = a .size .height in
-    let room : w * h ≤ length (a .cells .now) = search needs in
-    then w h _ _ _ _ _ room
-    (then w h _ _ _ _ _ room
-    (then w h _ _ _ _ _ room
-    (c .before .before .before .before .before .before .before .before .before .before .before .before .before .before .across .ensures)
-    (c .before .before .before .before .before .before .before .before .before .before .symbol .ensures))
-    (c .before .before .before .before .before .before .down .ensures))
-    (c .before .before .symbol2 .ensures)
+    let at-across = c .before .before .before .before .before .before in
+    let a = at-across .before .before .before .args in
+    then (a .size .width) (a .size .height) _ _ _ _ _ (search needs) (at-across .across .ensures) (c .before .before .plumb .ensures)
 
 pub branch-spec : {M : Type 1} → statement M
 branch-spec =
@@ -61,11 +36,6 @@ branch-spec =
     add-across-2
     sub-across
     across-requires
-    symbol-requires
-    add-down
-    add-down-2
-    sub-down
-    down-requires
-    symbol-requires-2
+    plumb-requires
     same-length
     returns)

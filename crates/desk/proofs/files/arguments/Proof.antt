@@ -6,10 +6,6 @@ use Rattle.io.proofs.Counting.{counts}
 use borrow.Author.Needs.{needs}
 use Rattle.desk.proofs.files.arguments.Statement.{statement}
 use Rattle.desk.proofs.files.arguments.Tie as tie
-use Rattle.desk.proofs.files.arguments.Reads as reads
-use Rattle.desk.proofs.files.arguments.Lts as lts
-use Rattle.desk.proofs.files.argument.Reads as argument-reads
-use Rattle.os.proofs.arg_count.Reads as arg-count-reads
 
 abbrev Inv-loop : tie.InvT-loop
 Inv-loop args₀ count at₀ i₀ args at i = (at ≤ length args₀) × (length args ≡ length args₀)
@@ -17,43 +13,33 @@ Inv-loop args₀ count at₀ i₀ args at i = (at ≤ length args₀) × (length
 abbrev μ-loop : tie.MeasureT-loop
 μ-loop args₀ count at₀ i₀ args at i = count - i
 
--- src/files.rt:39:9
 arg-count-requires : tie.Need-arg-count-requires Inv-loop μ-loop
 arg-count-requires c κs = search needs
 
--- src/files.rt:42:5
 loop-holds : tie.Need-loop-holds Inv-loop μ-loop
 loop-holds c = search needs
 
--- src/files.rt:43:13
 argument-requires : tie.Need-argument-requires Inv-loop μ-loop
 argument-requires c κs = search needs
 
--- src/files.rt:45:13
 same-length : tie.Need-same-length Inv-loop μ-loop
 same-length c = search needs
 
--- src/files.rt:45:13
 returns : tie.Need-returns Inv-loop μ-loop
 returns c = counts _ _ (search needs)
 
--- src/files.rt:48:9
 add-i : tie.Need-add-i Inv-loop μ-loop
 add-i c = search needs
 
--- src/files.rt:42:5
 loop-less : tie.Need-loop-less Inv-loop μ-loop
 loop-less c = search needs
 
--- src/files.rt:42:5
 loop-again : tie.Need-loop-again Inv-loop μ-loop
 loop-again c = search needs
 
--- src/files.rt:36:1
 same-length-2 : tie.Need-same-length-2 Inv-loop μ-loop
 same-length-2 c = search needs
 
--- src/files.rt:36:1
 returns-2 : tie.Need-returns-2 Inv-loop μ-loop
 returns-2 c = counts _ _ (search needs)
 

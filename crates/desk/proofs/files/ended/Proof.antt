@@ -6,26 +6,19 @@ use Rattle.io.proofs.Counting.{counts}
 use borrow.Author.Needs.{needs}
 use Rattle.desk.proofs.files.ended.Statement.{statement}
 use Rattle.desk.proofs.files.ended.Tie as tie
-use Rattle.desk.proofs.files.ended.Reads as reads
-use Rattle.desk.proofs.files.ended.Lts as lts
 
--- src/files.rt:15:9
 returns : tie.Need-returns
 returns c = search needs
 
--- src/files.rt:20:5
 slice-write-args : tie.Need-slice-write-args
 slice-write-args c = search needs
 
--- src/files.rt:22:15
 add-t3 : tie.Need-add-t3
 add-t3 c = search needs
 
--- src/files.rt:11:1
 same-length : tie.Need-same-length
 same-length c = search needs
 
--- src/files.rt:11:1
 returns-2 : tie.Need-returns-2
 returns-2 c =
     let a = c .before .args in

@@ -5,9 +5,6 @@ use lib.ListN.{length}
 use borrow.Author.Needs.{needs}
 use Rattle.desk.proofs.files.more.Statement.{statement}
 use Rattle.desk.proofs.files.more.Tie as tie
-use Rattle.desk.proofs.files.more.Reads as reads
-use Rattle.desk.proofs.files.more.Lts as lts
-use Rattle.console.proofs.read_from.Reads as read-from-reads
 
 abbrev Inv-loop : tie.InvT-loop
 Inv-loop fd buf₀ all₀ i₀ buf all i = (i ≤ 1024) × (all ≤ i * 1048577) × (length buf ≡ length buf₀)
@@ -15,43 +12,33 @@ Inv-loop fd buf₀ all₀ i₀ buf all i = (i ≤ 1024) × (all ≤ i * 1048577)
 abbrev μ-loop : tie.MeasureT-loop
 μ-loop fd buf₀ all₀ i₀ buf all i = 1024 - i
 
--- src/files.rt:48:5
 loop-holds : tie.Need-loop-holds Inv-loop μ-loop
 loop-holds c = search needs
 
--- src/files.rt:49:13
 read-from-requires : tie.Need-read-from-requires Inv-loop μ-loop
 read-from-requires c κs = search needs
 
--- src/files.rt:50:9
 add-all : tie.Need-add-all Inv-loop μ-loop
 add-all c = search needs
 
--- src/files.rt:52:13
 same-length : tie.Need-same-length Inv-loop μ-loop
 same-length c = search needs
 
--- src/files.rt:52:13
 returns : tie.Need-returns Inv-loop μ-loop
 returns c = search needs
 
--- src/files.rt:54:9
 add-i : tie.Need-add-i Inv-loop μ-loop
 add-i c = search needs
 
--- src/files.rt:48:5
 loop-less : tie.Need-loop-less Inv-loop μ-loop
 loop-less c = search needs
 
--- src/files.rt:48:5
 loop-again : tie.Need-loop-again Inv-loop μ-loop
 loop-again c = search needs
 
--- src/files.rt:43:1
 same-length-2 : tie.Need-same-length-2 Inv-loop μ-loop
 same-length-2 c = search needs
 
--- src/files.rt:43:1
 returns-2 : tie.Need-returns-2 Inv-loop μ-loop
 returns-2 c = search needs
 

@@ -3,24 +3,17 @@ use Rattle.rules.specs.Base.{pick}
 use borrow.Author.Needs.{needs}
 use Rattle.desk_answer.proofs.options.about.Statement.{statement}
 use Rattle.desk_answer.proofs.options.about.Tie as tie
-use Rattle.desk_answer.proofs.options.about.Reads as reads
-use Rattle.desk_answer.proofs.options.about.Lts as lts
-use Rattle.desk_answer.proofs.options.part.Reads as part-reads
 
--- src/options.rt:59:9
 part-requires : tie.Need-part-requires
 part-requires c κs = search needs
 
--- src/options.rt:59:9
 returns : tie.Need-returns
 unfolding pick
 returns c = rw (c .before .if1 .taken) (c .part .ensures)
 
--- src/options.rt:61:5
 slice-aggregate-result : tie.Need-slice-aggregate-result
 slice-aggregate-result c = search needs
 
--- src/options.rt:55:1
 returns-2 : tie.Need-returns-2
 unfolding pick
 returns-2 c = rw (c .before .if1 .left)

@@ -3,15 +3,11 @@ use Rattle.rules.specs.Base.{pick}
 use Rattle.desk_answer.specs.Options.{measureIn}
 use Rattle.desk_answer.proofs.options.measure_of.Statement.{statement}
 use Rattle.desk_answer.proofs.options.measure_of.Tie as tie
-use Rattle.desk_answer.proofs.options.measure_of.Reads as reads
-use Rattle.desk_answer.proofs.options.measure_of.Lts as lts
 
--- src/options.rt:20:9
 returns : tie.Need-returns
 unfolding measureIn pick
 returns c = rw (c .if1 .taken)
 
--- src/options.rt:16:1
 returns-2 : tie.Need-returns-2
 unfolding measureIn pick
 returns-2 c = rw (c .if1 .left)

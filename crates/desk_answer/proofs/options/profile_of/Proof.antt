@@ -3,15 +3,11 @@ use Rattle.rules.specs.Base.{pick}
 use Rattle.desk_answer.specs.Options.{profileIn}
 use Rattle.desk_answer.proofs.options.profile_of.Statement.{statement}
 use Rattle.desk_answer.proofs.options.profile_of.Tie as tie
-use Rattle.desk_answer.proofs.options.profile_of.Reads as reads
-use Rattle.desk_answer.proofs.options.profile_of.Lts as lts
 
--- src/options.rt:30:9
 returns : tie.Need-returns
 unfolding profileIn pick
 returns c = rw (c .if1 .taken)
 
--- src/options.rt:26:1
 returns-2 : tie.Need-returns-2
 unfolding profileIn pick
 returns-2 c = rw (c .if1 .left)

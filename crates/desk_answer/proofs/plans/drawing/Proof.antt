@@ -3,43 +3,31 @@ use Rattle.rules.specs.Base.{pick}
 use borrow.Author.Needs.{needs}
 use Rattle.desk_answer.proofs.plans.drawing.Statement.{statement}
 use Rattle.desk_answer.proofs.plans.drawing.Tie as tie
-use Rattle.desk_answer.proofs.plans.drawing.Reads as reads
-use Rattle.desk_answer.proofs.plans.drawing.Lts as lts
-use Rattle.desk_draw.proofs.draw_page.Reads as draw-page-reads
-use Rattle.desk_draw.proofs.rows_page.Reads as rows-page-reads
 
--- src/plans.rt:42:9
 rows-page-requires : tie.Need-rows-page-requires
 rows-page-requires c κs = search needs
 
--- src/plans.rt:42:9
 same-length : tie.Need-same-length
 same-length c = search needs
 
--- src/plans.rt:42:9
 same-length-2 : tie.Need-same-length-2
 same-length-2 c = search needs
 
--- src/plans.rt:42:9
 returns : tie.Need-returns
 unfolding pick
 returns c =
     let at-page = c .before .before .before .before in
     rw (at-page .before .before .before .if1 .taken) (at-page .rows-page .ensures)
 
--- src/plans.rt:44:5
 draw-page-requires : tie.Need-draw-page-requires
 draw-page-requires c κs = search needs
 
--- src/plans.rt:24:1
 same-length-3 : tie.Need-same-length-3
 same-length-3 c = search needs
 
--- src/plans.rt:24:1
 same-length-4 : tie.Need-same-length-4
 same-length-4 c = search needs
 
--- src/plans.rt:24:1
 returns-2 : tie.Need-returns-2
 unfolding pick
 returns-2 c =

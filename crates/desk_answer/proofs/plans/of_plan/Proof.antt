@@ -5,129 +5,88 @@ use Rattle.desk_answer.proofs.Asked.{draw-asked, sheets-asked, graph-as
 use borrow.Author.Needs.{needs}
 use Rattle.desk_answer.proofs.plans.of_plan.Statement.{statement}
 use Rattle.desk_answer.proofs.plans.of_plan.Tie as tie
-use Rattle.desk_answer.proofs.plans.of_plan.Reads as reads
-use Rattle.desk_answer.proofs.plans.of_plan.Lts as lts
-use Rattle.desk_answer.proofs.options.measure_of.Reads as measure-of-reads
-use Rattle.desk_answer.proofs.options.part.Reads as part-reads
-use Rattle.desk_answer.proofs.options.profile_of.Reads as profile-of-reads
-use Rattle.desk_answer.proofs.plans.drawing.Reads as drawing-reads
-use Rattle.desk_ask.proofs.fits_page.Reads as fits-page-reads
-use Rattle.desk_ask.proofs.why_page.Reads as why-page-reads
-use Rattle.desk_draw.proofs.graph_page.Reads as graph-page-reads
-use Rattle.desk_draw.proofs.json_page.Reads as json-page-reads
-use Rattle.desk_draw.proofs.sheets_page.Reads as sheets-page-reads
-use Rattle.desk_page.proofs.put_out.Reads as put-out-reads
-use Rattle.text.proofs.wide.Reads as wide-reads
 
--- src/plans.rt:62:9
 part-requires : tie.Need-part-requires
 part-requires c κs = search needs
 
--- src/plans.rt:63:9
 measure-of-requires : tie.Need-measure-of-requires
 measure-of-requires c κs = search needs
 
--- src/plans.rt:64:9
 profile-of-requires : tie.Need-profile-of-requires
 profile-of-requires c κs = search needs
 
--- src/plans.rt:75:13
 enum-told : tie.Need-enum-told
 enum-told c = search needs
 
--- src/plans.rt:67:23
 drawing-requires : tie.Need-drawing-requires
 drawing-requires c κs = search needs
 
--- src/plans.rt:85:13
 enum-told-2 : tie.Need-enum-told-2
 enum-told-2 c = search needs
 
--- src/plans.rt:85:13
 wide-requires : tie.Need-wide-requires
 wide-requires c κs = search needs
 
--- src/plans.rt:86:13
 wide-requires-2 : tie.Need-wide-requires-2
 wide-requires-2 c κs = search needs
 
--- src/plans.rt:78:25
 sheets-page-requires : tie.Need-sheets-page-requires
 sheets-page-requires c κs = search needs
 
--- src/plans.rt:90:79
 enum-told-3 : tie.Need-enum-told-3
 enum-told-3 c = search needs
 
--- src/plans.rt:90:24
 graph-page-requires : tie.Need-graph-page-requires
 graph-page-requires c κs = search needs
 
--- src/plans.rt:91:59
 enum-told-4 : tie.Need-enum-told-4
 enum-told-4 c = search needs
 
--- src/plans.rt:91:23
 json-page-requires : tie.Need-json-page-requires
 json-page-requires c κs = search needs
 
--- src/plans.rt:92:75
 enum-told-5 : tie.Need-enum-told-5
 enum-told-5 c = search needs
 
--- src/plans.rt:92:22
 why-page-requires : tie.Need-why-page-requires
 why-page-requires c κs = search needs
 
--- src/plans.rt:93:77
 enum-told-6 : tie.Need-enum-told-6
 enum-told-6 c = search needs
 
--- src/plans.rt:93:23
 fits-page-requires : tie.Need-fits-page-requires
 fits-page-requires c κs = search needs
 
--- src/plans.rt:94:23
 enum-told-7 : tie.Need-enum-told-7
 enum-told-7 c = search needs
 
--- src/plans.rt:94:23
 put-out-requires : tie.Need-put-out-requires
 put-out-requires c κs = search needs
 
--- src/plans.rt:95:24
 enum-told-8 : tie.Need-enum-told-8
 enum-told-8 c = search needs
 
--- src/plans.rt:95:24
 put-out-requires-2 : tie.Need-put-out-requires-2
 put-out-requires-2 c κs = search needs
 
--- src/plans.rt:96:23
 enum-told-9 : tie.Need-enum-told-9
 enum-told-9 c = search needs
 
--- src/plans.rt:96:23
 put-out-requires-3 : tie.Need-put-out-requires-3
 put-out-requires-3 c κs = search needs
 
--- src/plans.rt:97:26
 enum-told-10 : tie.Need-enum-told-10
 enum-told-10 c = search needs
 
--- src/plans.rt:97:26
 put-out-requires-4 : tie.Need-put-out-requires-4
 put-out-requires-4 c κs = search needs
 
--- src/plans.rt:48:1
 same-length : tie.Need-same-length
 same-length c = search needs
 
--- src/plans.rt:48:1
 same-length-2 : tie.Need-same-length-2
 same-length-2 c = search needs
 
--- src/plans.rt:48:1
 returns : tie.Need-returns
 returns c =
     let at-page = c .before .before .before .before in
@@ -138,15 +97,12 @@ returns c =
     let e : a .c .word ≡ Word.Draw = search needs in
     draw-asked (a .args .now) (a .c) (a .table .now) (a .titles .now) _ _ _ _ _ _ _ e (at-measure .measure-of .ensures) (at-profile .profile-of .ensures) (at-measure .before .part .ensures) (at-page .drawing .ensures)
 
--- src/plans.rt:48:1
 same-length-3 : tie.Need-same-length-3
 same-length-3 c = search needs
 
--- src/plans.rt:48:1
 same-length-4 : tie.Need-same-length-4
 same-length-4 c = search needs
 
--- src/plans.rt:48:1
 returns-2 : tie.Need-returns-2
 returns-2 c =
     let at-page = c .before .before .before .before in
@@ -157,11 +113,9 @@ returns-2 c =
     let e : a .c .word ≡ Word.Sheets = search (needs, at-page .before .before .before .before .before .enum-told2 .given) in
     sheets-asked (a .args .now) (a .c) (a .table .now) (a .titles .now) _ _ _ _ _ _ _ _ _ e (at-measure .measure-of .ensures) (at-profile .profile-of .ensures) (at-measure .before .part .ensures) (at-page .before .before .before .before .wide .ensures) (at-page .before .before .before .wide2 .ensures) (at-page .sheets-page .ensures)
 
--- src/plans.rt:48:1
 same-length-5 : tie.Need-same-length-5
 same-length-5 c = search needs
 
--- src/plans.rt:48:1
 returns-3 : tie.Need-returns-3
 returns-3 c =
     let at-page = c .before .before in
@@ -172,11 +126,9 @@ returns-3 c =
     let e : a .c .word ≡ Word.Graph = search needs in
     graph-asked (a .args .now) (a .c) (a .table .now) (a .titles .now) _ _ _ _ _ _ e (at-measure .before .part .ensures) refl (at-page .graph-page .ensures)
 
--- src/plans.rt:48:1
 same-length-6 : tie.Need-same-length-6
 same-length-6 c = search needs
 
--- src/plans.rt:48:1
 returns-4 : tie.Need-returns-4
 returns-4 c =
     let at-page = c .before .before in
@@ -187,11 +139,9 @@ returns-4 c =
     let e : a .c .word ≡ Word.Json = search needs in
     json-asked (a .args .now) (a .c) (a .table .now) (a .titles .now) _ _ _ _ e (at-page .json-page .ensures)
 
--- src/plans.rt:48:1
 same-length-7 : tie.Need-same-length-7
 same-length-7 c = search needs
 
--- src/plans.rt:48:1
 returns-5 : tie.Need-returns-5
 returns-5 c =
     let at-page = c .before .before in
@@ -202,11 +152,9 @@ returns-5 c =
     let e : a .c .word ≡ Word.Why = search needs in
     why-asked (a .args .now) (a .c) (a .table .now) (a .titles .now) _ _ _ _ e (at-page .why-page .ensures)
 
--- src/plans.rt:48:1
 same-length-8 : tie.Need-same-length-8
 same-length-8 c = search needs
 
--- src/plans.rt:48:1
 returns-6 : tie.Need-returns-6
 returns-6 c =
     let at-page = c .before .before in
@@ -217,7 +165,6 @@ returns-6 c =
     let e : a .c .word ≡ Word.Fits = search needs in
     fits-asked (a .args .now) (a .c) (a .table .now) (a .titles .now) _ _ _ _ e (at-page .fits-page .ensures)
 
--- src/plans.rt:48:1
 returns-7 : tie.Need-returns-7
 returns-7 c =
     let at-s = c .before .before .before .before .before .before .before .before in
@@ -225,7 +172,6 @@ returns-7 c =
     let e : a .c .word ≡ Word.Read = search needs in
     read-asked (a .args .now) (a .c) (a .table .now) (a .titles .now) _ _ _ _ e (c .put-out .ensures)
 
--- src/plans.rt:48:1
 returns-8 : tie.Need-returns-8
 returns-8 c =
     let at-s = c .before .before .before .before .before .before .before .before in
@@ -233,7 +179,6 @@ returns-8 c =
     let e : a .c .word ≡ Word.Check = search needs in
     check-asked (a .args .now) (a .c) (a .table .now) (a .titles .now) _ _ _ _ e (c .put-out2 .ensures)
 
--- src/plans.rt:48:1
 returns-9 : tie.Need-returns-9
 returns-9 c =
     let at-s = c .before .before .before .before .before .before .before .before in
@@ -241,7 +186,6 @@ returns-9 c =
     let e : a .c .word ≡ Word.Help = search needs in
     help-asked (a .args .now) (a .c) (a .table .now) (a .titles .now) _ _ _ _ e (c .put-out3 .ensures)
 
--- src/plans.rt:48:1
 returns-10 : tie.Need-returns-10
 returns-10 c =
     let at-s = c .before .before .before .before .before .before .before .before in

@@ -5,49 +5,32 @@ use native.Mathlib.Omega.{arith}
 use lib.ListN.{length}
 use Rattle.desk_page.specs.Pages.{onErr}
 use Rattle.desk_page.proofs.Pages.{put-page}
-use Rattle.desk_trouble.specs.Troubles.{troubleWords}
-use Rattle.desk_answer.specs.Printed.{aboutIn, Prints}
 use Rattle.desk_answer.proofs.Said.{about-short}
 use borrow.Author.Needs.{needs}
 use Rattle.desk_answer.proofs.printed.answer.Statement.{statement}
 use Rattle.desk_answer.proofs.printed.answer.Tie as tie
-use Rattle.desk_answer.proofs.printed.answer.Reads as reads
-use Rattle.desk_answer.proofs.printed.answer.Lts as lts
-use Rattle.desk_answer.proofs.options.about.Reads as about-reads
-use Rattle.desk_answer.proofs.printed.asked.Reads as asked-reads
-use Rattle.desk_line.proofs.options.Reads as options-reads
-use Rattle.desk_line.proofs.troubled.Reads as troubled-reads
-use Rattle.desk_page.proofs.put_err.Reads as put-err-reads
-use Rattle.desk_trouble.proofs.trouble_words.Reads as trouble-words-reads
 
--- src/printed.rt:104:9
 options-requires : tie.Need-options-requires
 options-requires c κs = search needs
 
--- src/printed.rt:106:8
 troubled-requires : tie.Need-troubled-requires
 troubled-requires c κs = search needs
 
--- src/printed.rt:107:66
 about-requires : tie.Need-about-requires
 about-requires c κs = search needs
 
--- src/printed.rt:107:24
 trouble-words-requires : tie.Need-trouble-words-requires
 trouble-words-requires c κs =
     let at-options = c .before .before .before .before .before in
     let start = at-options .before .before .before .before .before .before .before in
     omega (arith, ap length (c .about .ensures), about-short (start .args .args .now) (at-options .options .result .about), start .pre .0)
 
--- src/printed.rt:107:9
 put-err-requires : tie.Need-put-err-requires
 put-err-requires c κs = search needs
 
--- src/printed.rt:107:9
 same-length : tie.Need-same-length
 same-length c = search needs
 
--- src/printed.rt:107:9
 returns : tie.Need-returns
 returns c =
     let at-words = c .before .before .before in
@@ -60,27 +43,21 @@ returns c =
     rw (← (at-options .options .ensures))
     (onErr _, record { wrong = λ h. refl; asked = λ h. absurd (false≢true (sym h ∙ e)) }, put-page true l (omega (arith, at-words .trouble-words .ensures .1, ap length (at-about .about .ensures), about-short (start .args .args .now) (at-options .options .result .about), start .pre .0, start .pre .4)) (c .put-err .ensures))
 
--- src/printed.rt:109:5
 asked-requires : tie.Need-asked-requires
 asked-requires c κs = search needs
 
--- src/printed.rt:93:1
 same-length-2 : tie.Need-same-length-2
 same-length-2 c = search needs
 
--- src/printed.rt:93:1
 same-length-3 : tie.Need-same-length-3
 same-length-3 c = search needs
 
--- src/printed.rt:93:1
 same-length-4 : tie.Need-same-length-4
 same-length-4 c = search needs
 
--- src/printed.rt:93:1
 same-length-5 : tie.Need-same-length-5
 same-length-5 c = search needs
 
--- src/printed.rt:93:1
 returns-2 : tie.Need-returns-2
 returns-2 c =
     let at-asked = c .before .before .before .before .before .before .before .before in

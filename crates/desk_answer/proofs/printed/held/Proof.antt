@@ -5,34 +5,25 @@ use lib.Seq.{length-take-le}
 use borrow.Author.Needs.{needs}
 use Rattle.desk_answer.proofs.printed.held.Statement.{statement}
 use Rattle.desk_answer.proofs.printed.held.Tie as tie
-use Rattle.desk_answer.proofs.printed.held.Reads as reads
-use Rattle.desk_answer.proofs.printed.held.Lts as lts
-use Rattle.desk_answer.proofs.plans.of_plan.Reads as of-plan-reads
 
--- src/printed.rt:39:22
 slice-aggregate-of-plan : tie.Need-slice-aggregate-of-plan
 slice-aggregate-of-plan c = sym (length-take-le _ _ (search needs))
 
--- src/printed.rt:39:41
 slice-aggregate-of-plan-2 : tie.Need-slice-aggregate-of-plan-2
 slice-aggregate-of-plan-2 c = sym (length-take-le _ _ (search needs))
 
--- src/printed.rt:39:5
 of-plan-requires : tie.Need-of-plan-requires
 of-plan-requires c κs =
     let at-known = c .before .before .before .before in
     let s = at-known .before .before .before .before .before in
     (omega (arith, length-take-le (s .args .entries) (s .args .table .now) (s .pre .1)), search needs)
 
--- src/printed.rt:26:1
 same-length : tie.Need-same-length
 same-length c = search needs
 
--- src/printed.rt:26:1
 same-length-2 : tie.Need-same-length-2
 same-length-2 c = search needs
 
--- src/printed.rt:26:1
 returns : tie.Need-returns
 returns c = search needs
 

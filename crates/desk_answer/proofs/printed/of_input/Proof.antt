@@ -4,63 +4,45 @@ use mathlib.Core.Bool.{true}
 use native.Mathlib.Omega.{arith}
 use Rattle.desk_page.specs.Pages.{onErr}
 use Rattle.desk_page.proofs.Pages.{put-page}
-use Rattle.desk_say.specs.Refusals.{textRefusal}
 use Rattle.desk_answer.specs.Printed.{OfInput}
 use Rattle.desk_answer.proofs.Loaded.{loads-plan, loads-refused}
 use borrow.Author.Needs.{needs}
 use Rattle.desk_answer.proofs.printed.of_input.Statement.{statement}
 use Rattle.desk_answer.proofs.printed.of_input.Tie as tie
-use Rattle.desk_answer.proofs.printed.of_input.Reads as reads
-use Rattle.desk_answer.proofs.printed.of_input.Lts as lts
-use Rattle.desk_answer.proofs.printed.held.Reads as held-reads
-use Rattle.desk_page.proofs.put_err.Reads as put-err-reads
-use Rattle.desk_plan.proofs.load.Reads as load-reads
-use Rattle.desk_say.proofs.text_refusal.Reads as text-refusal-reads
 
--- src/printed.rt:55:9
 load-requires : tie.Need-load-requires
 load-requires c κs = search needs
 
--- src/printed.rt:57:22
 enum-known-l : tie.Need-enum-known-l
 enum-known-l c = search needs
 
--- src/printed.rt:57:40
 held-requires : tie.Need-held-requires
 held-requires c κs =
     let at-l = c .before .before .before .before .before in
     let b = loads-plan (at-l .before .before .before .before .before .before .load .ensures) (at-l .l .given .1) in
     (omega (arith, b .few), b .table-fits, b .titles-fits, search needs)
 
--- src/printed.rt:58:25
 enum-known-l-2 : tie.Need-enum-known-l-2
 enum-known-l-2 c = search needs
 
--- src/printed.rt:58:52
 text-refusal-requires : tie.Need-text-refusal-requires
 text-refusal-requires c κs = search needs
 
--- src/printed.rt:58:44
 put-err-requires : tie.Need-put-err-requires
 put-err-requires c κs = search needs
 
--- src/printed.rt:43:1
 same-length : tie.Need-same-length
 same-length c = search needs
 
--- src/printed.rt:43:1
 same-length-2 : tie.Need-same-length-2
 same-length-2 c = search needs
 
--- src/printed.rt:43:1
 same-length-3 : tie.Need-same-length-3
 same-length-3 c = search needs
 
--- src/printed.rt:43:1
 same-length-4 : tie.Need-same-length-4
 same-length-4 c = search needs
 
--- src/printed.rt:43:1
 returns : tie.Need-returns
 returns c =
     let at-held = c .before .before .before .before in
@@ -69,19 +51,15 @@ returns c =
     let o = at-held .held .ensures in
     (o .0, OfInput.held _ _ (b .holds) (o .1), o .2)
 
--- src/printed.rt:43:1
 same-length-5 : tie.Need-same-length-5
 same-length-5 c = search needs
 
--- src/printed.rt:43:1
 same-length-6 : tie.Need-same-length-6
 same-length-6 c = search needs
 
--- src/printed.rt:43:1
 same-length-7 : tie.Need-same-length-7
 same-length-7 c = search needs
 
--- src/printed.rt:43:1
 returns-2 : tie.Need-returns-2
 returns-2 c =
     let at-words = c .before .before .before in

@@ -4,38 +4,24 @@ use mathlib.Core.Bool.{true}
 use native.Mathlib.Omega.{arith}
 use Rattle.desk_page.specs.Pages.{onErr}
 use Rattle.desk_page.proofs.Pages.{put-page}
-use Rattle.desk_say.specs.Refusals.{textRefusal}
 use Rattle.desk_answer.specs.Printed.{OfPicture}
 use Rattle.desk_answer.proofs.Loaded.{pictured-plan, pictured-refused, picture-held}
 use borrow.Author.Needs.{needs}
 use Rattle.desk_answer.proofs.printed.of_picture.Statement.{statement}
 use Rattle.desk_answer.proofs.printed.of_picture.Tie as tie
-use Rattle.desk_answer.proofs.printed.of_picture.Reads as reads
-use Rattle.desk_answer.proofs.printed.of_picture.Lts as lts
-use Rattle.desk_answer.proofs.options.measure_of.Reads as measure-of-reads
-use Rattle.desk_answer.proofs.options.profile_of.Reads as profile-of-reads
-use Rattle.desk_answer.proofs.printed.json_of.Reads as json-of-reads
-use Rattle.desk_page.proofs.put_err.Reads as put-err-reads
-use Rattle.desk_read.proofs.load_picture.Reads as load-picture-reads
-use Rattle.desk_say.proofs.text_refusal.Reads as text-refusal-reads
 
--- src/printed.rt:83:9
 measure-of-requires : tie.Need-measure-of-requires
 measure-of-requires c κs = search needs
 
--- src/printed.rt:84:9
 profile-of-requires : tie.Need-profile-of-requires
 profile-of-requires c κs = search needs
 
--- src/printed.rt:85:9
 load-picture-requires : tie.Need-load-picture-requires
 load-picture-requires c κs = search needs
 
--- src/printed.rt:87:22
 enum-known-l : tie.Need-enum-known-l
 enum-known-l c = search needs
 
--- src/printed.rt:87:40
 json-of-requires : tie.Need-json-of-requires
 json-of-requires c κs =
     let at-l = c .before .before .before .before in
@@ -45,35 +31,27 @@ json-of-requires c κs =
     let b = pictured-plan (at-load .load-picture .ensures) (at-l .l .given .1) in
     (omega (arith, b .few, start .pre .0), b .table-fits, b .titles-fits, start .pre .2)
 
--- src/printed.rt:88:25
 enum-known-l-2 : tie.Need-enum-known-l-2
 enum-known-l-2 c = search needs
 
--- src/printed.rt:88:52
 text-refusal-requires : tie.Need-text-refusal-requires
 text-refusal-requires c κs = search needs
 
--- src/printed.rt:88:44
 put-err-requires : tie.Need-put-err-requires
 put-err-requires c κs = search needs
 
--- src/printed.rt:71:1
 same-length : tie.Need-same-length
 same-length c = search needs
 
--- src/printed.rt:71:1
 same-length-2 : tie.Need-same-length-2
 same-length-2 c = search needs
 
--- src/printed.rt:71:1
 same-length-3 : tie.Need-same-length-3
 same-length-3 c = search needs
 
--- src/printed.rt:71:1
 same-length-4 : tie.Need-same-length-4
 same-length-4 c = search needs
 
--- src/printed.rt:71:1
 returns : tie.Need-returns
 returns c = λ A.
     let at-json = c .before .before in
@@ -84,23 +62,18 @@ returns c = λ A.
     let b = pictured-plan r (at-l .l .given .1) in
     (_, picture-held _ _ _ _ _ (b .holds), at-json .json-of .ensures)
 
--- src/printed.rt:71:1
 same-length-5 : tie.Need-same-length-5
 same-length-5 c = search needs
 
--- src/printed.rt:71:1
 same-length-6 : tie.Need-same-length-6
 same-length-6 c = search needs
 
--- src/printed.rt:71:1
 same-length-7 : tie.Need-same-length-7
 same-length-7 c = search needs
 
--- src/printed.rt:71:1
 same-length-8 : tie.Need-same-length-8
 same-length-8 c = search needs
 
--- src/printed.rt:71:1
 returns-2 : tie.Need-returns-2
 returns-2 c = λ A.
     let at-words = c .before .before .before in

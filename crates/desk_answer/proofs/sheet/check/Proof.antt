@@ -3,51 +3,34 @@ use Rattle.desk_answer.proofs.Said.{said-standin}
 use borrow.Author.Needs.{needs}
 use Rattle.desk_answer.proofs.sheet.check.Statement.{statement}
 use Rattle.desk_answer.proofs.sheet.check.Tie as tie
-use Rattle.desk_answer.proofs.sheet.check.Reads as reads
-use Rattle.desk_answer.proofs.sheet.check.Lts as lts
-use Rattle.desk_answer.proofs.options.measure_of.Reads as measure-of-reads
-use Rattle.desk_answer.proofs.options.part.Reads as part-reads
-use Rattle.desk_answer.proofs.options.profile_of.Reads as profile-of-reads
-use Rattle.desk_check.proofs.check_page.Reads as check-page-reads
-use Rattle.desk_line.proofs.options.Reads as options-reads
 
--- src/sheet.rt:29:9
 options-requires : tie.Need-options-requires
 options-requires c κs = search needs
 
--- src/sheet.rt:32:9
 part-requires : tie.Need-part-requires
 part-requires c κs = search needs
 
--- src/sheet.rt:33:9
 measure-of-requires : tie.Need-measure-of-requires
 measure-of-requires c κs = search needs
 
--- src/sheet.rt:34:9
 profile-of-requires : tie.Need-profile-of-requires
 profile-of-requires c κs = search needs
 
--- src/sheet.rt:35:5
 check-page-requires : tie.Need-check-page-requires
 check-page-requires c κs = search needs
 
--- src/sheet.rt:16:1
 same-length : tie.Need-same-length
 same-length c = search needs
 
--- src/sheet.rt:16:1
 same-length-2 : tie.Need-same-length-2
 same-length-2 c = search needs
 
--- src/sheet.rt:16:1
 same-length-3 : tie.Need-same-length-3
 same-length-3 c = search needs
 
--- src/sheet.rt:16:1
 same-length-4 : tie.Need-same-length-4
 same-length-4 c = search needs
 
--- src/sheet.rt:16:1
 returns : tie.Need-returns
 returns c =
     let at-check = c .before .before .before .before .before .before .before .before in

@@ -4,24 +4,16 @@ use Rattle.desk_ask.specs.Asked.{reasonPage}
 use borrow.Author.Needs.{needs}
 use Rattle.desk_ask.proofs.asked.why_page.Statement.{statement}
 use Rattle.desk_ask.proofs.asked.why_page.Tie as tie
-use Rattle.desk_ask.proofs.asked.why_page.Reads as reads
-use Rattle.desk_ask.proofs.asked.why_page.Lts as lts
-use Rattle.desk_ask.proofs.asked.reason_page.Reads as reason-page-reads
-use Rattle.explain.proofs.why.Reads as why-reads
 
--- src/asked.rt:33:24
 why-requires : tie.Need-why-requires
 why-requires c κs = search needs
 
--- src/asked.rt:33:5
 reason-page-requires : tie.Need-reason-page-requires
 reason-page-requires c κs = search needs
 
--- src/asked.rt:29:1
 same-length : tie.Need-same-length
 same-length c = search needs
 
--- src/asked.rt:29:1
 returns : tie.Need-returns
 returns c =
     let at-page = c .before .before in

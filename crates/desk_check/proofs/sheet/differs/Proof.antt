@@ -1,7 +1,7 @@
 -- The parts of the lent memories that the reader tells are the plan's that it found; where it tells none, why.
 use mathlib.Core.Path.{sym}
 use lib.Seq.{length-take-le}
-use Rattle.desk_check.specs.Placed.{Says}
+use Rattle.desk_check.specs.Says.{Says}
 use Rattle.desk_check.proofs.Found.{plan-told, unread-told}
 use borrow.Author.Needs.{needs}
 use Rattle.desk_check.proofs.sheet.differs.Statement.{statement}

@@ -10,28 +10,19 @@ use Rattle.desk_draw.proofs.Laid.{draw-written}
 use borrow.Author.Needs.{needs}
 use Rattle.desk_draw.proofs.drawn.draw_page.Statement.{statement}
 use Rattle.desk_draw.proofs.drawn.draw_page.Tie as tie
-use Rattle.desk_draw.proofs.drawn.draw_page.Reads as reads
-use Rattle.desk_draw.proofs.drawn.draw_page.Lts as lts
-use Rattle.desk_page.proofs.finish.Reads as finish-reads
-use Rattle.tree_format.proofs.draw.Reads as draw-reads
 
--- src/drawn.rt:28:9
 draw-requires : tie.Need-draw-requires
 draw-requires c κs = search needs
 
--- src/drawn.rt:30:5
 finish-requires : tie.Need-finish-requires
 finish-requires c κs = search needs
 
--- src/drawn.rt:15:1
 same-length : tie.Need-same-length
 same-length c = search needs
 
--- src/drawn.rt:15:1
 same-length-2 : tie.Need-same-length-2
 same-length-2 c = search needs
 
--- src/drawn.rt:15:1
 returns : tie.Need-returns
 unfolding drawPage told drawing rowDrawing sheetsDrawing
 returns c =

@@ -6,24 +6,16 @@ use Rattle.desk_draw.proofs.Laid.{graph-written}
 use borrow.Author.Needs.{needs}
 use Rattle.desk_draw.proofs.drawn.graph_page.Statement.{statement}
 use Rattle.desk_draw.proofs.drawn.graph_page.Tie as tie
-use Rattle.desk_draw.proofs.drawn.graph_page.Reads as reads
-use Rattle.desk_draw.proofs.drawn.graph_page.Lts as lts
-use Rattle.desk_page.proofs.finish.Reads as finish-reads
-use Rattle.graphs.proofs.dot.Reads as dot-reads
 
--- src/drawn.rt:93:9
 dot-requires : tie.Need-dot-requires
 dot-requires c κs = search needs
 
--- src/drawn.rt:94:5
 finish-requires : tie.Need-finish-requires
 finish-requires c κs = search needs
 
--- src/drawn.rt:82:1
 same-length : tie.Need-same-length
 same-length c = search needs
 
--- src/drawn.rt:82:1
 returns : tie.Need-returns
 unfolding graphPage
 returns c =

@@ -4,24 +4,16 @@ use Rattle.desk_draw.proofs.Laid.{json-written}
 use borrow.Author.Needs.{needs}
 use Rattle.desk_draw.proofs.drawn.json_page.Statement.{statement}
 use Rattle.desk_draw.proofs.drawn.json_page.Tie as tie
-use Rattle.desk_draw.proofs.drawn.json_page.Reads as reads
-use Rattle.desk_draw.proofs.drawn.json_page.Lts as lts
-use Rattle.desk_page.proofs.finish.Reads as finish-reads
-use Rattle.json_write.proofs.write_json.Reads as write-json-reads
 
--- src/drawn.rt:102:9
 write-json-requires : tie.Need-write-json-requires
 write-json-requires c κs = search needs
 
--- src/drawn.rt:103:5
 finish-requires : tie.Need-finish-requires
 finish-requires c κs = search needs
 
--- src/drawn.rt:98:1
 same-length : tie.Need-same-length
 same-length c = search needs
 
--- src/drawn.rt:98:1
 returns : tie.Need-returns
 unfolding jsonPage
 returns c =

@@ -10,28 +10,19 @@ use Rattle.desk_draw.proofs.Laid.{rows-written}
 use borrow.Author.Needs.{needs}
 use Rattle.desk_draw.proofs.drawn.rows_page.Statement.{statement}
 use Rattle.desk_draw.proofs.drawn.rows_page.Tie as tie
-use Rattle.desk_draw.proofs.drawn.rows_page.Reads as reads
-use Rattle.desk_draw.proofs.drawn.rows_page.Lts as lts
-use Rattle.desk_page.proofs.finish.Reads as finish-reads
-use Rattle.rows.proofs.draw_rows.Reads as draw-rows-reads
 
--- src/drawn.rt:47:9
 draw-rows-requires : tie.Need-draw-rows-requires
 draw-rows-requires c κs = search needs
 
--- src/drawn.rt:49:5
 finish-requires : tie.Need-finish-requires
 finish-requires c κs = search needs
 
--- src/drawn.rt:34:1
 same-length : tie.Need-same-length
 same-length c = search needs
 
--- src/drawn.rt:34:1
 same-length-2 : tie.Need-same-length-2
 same-length-2 c = search needs
 
--- src/drawn.rt:34:1
 returns : tie.Need-returns
 unfolding rowsPage told drawing rowDrawing sheetsDrawing
 returns c =

@@ -10,28 +10,19 @@ use Rattle.desk_draw.proofs.Laid.{sheets-written}
 use borrow.Author.Needs.{needs}
 use Rattle.desk_draw.proofs.drawn.sheets_page.Statement.{statement}
 use Rattle.desk_draw.proofs.drawn.sheets_page.Tie as tie
-use Rattle.desk_draw.proofs.drawn.sheets_page.Reads as reads
-use Rattle.desk_draw.proofs.drawn.sheets_page.Lts as lts
-use Rattle.desk_page.proofs.finish.Reads as finish-reads
-use Rattle.sheets.proofs.sheets.Reads as sheets-reads
 
--- src/drawn.rt:68:9
 sheets-requires : tie.Need-sheets-requires
 sheets-requires c κs = search needs
 
--- src/drawn.rt:81:5
 finish-requires : tie.Need-finish-requires
 finish-requires c κs = search needs
 
--- src/drawn.rt:53:1
 same-length : tie.Need-same-length
 same-length c = search needs
 
--- src/drawn.rt:53:1
 same-length-2 : tie.Need-same-length-2
 same-length-2 c = search needs
 
--- src/drawn.rt:53:1
 returns : tie.Need-returns
 unfolding sheetsPage told drawing rowDrawing sheetsDrawing
 returns c =

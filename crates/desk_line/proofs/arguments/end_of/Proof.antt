@@ -8,8 +8,6 @@ use Rattle.desk_line.specs.Arguments.{argument}
 use Rattle.desk_line.proofs.Split.{argument-on, argument-over, argument-none}
 use Rattle.desk_line.proofs.arguments.end_of.Statement.{statement}
 use Rattle.desk_line.proofs.arguments.end_of.Tie as tie
-use Rattle.desk_line.proofs.arguments.end_of.Reads as reads
-use Rattle.desk_line.proofs.arguments.end_of.Lts as lts
 
 abbrev Inv-loop : tie.InvT-loop
 Inv-loop args at end₀ end =
@@ -18,37 +16,30 @@ Inv-loop args at end₀ end =
 abbrev μ-loop : tie.MeasureT-loop
 μ-loop args at end₀ end = length args - end
 
--- src/arguments.rt:13:5
 loop-holds : tie.Need-loop-holds Inv-loop μ-loop
 loop-holds c = search needs
 
--- src/arguments.rt:14:12
 shared-slice-read-if1 : tie.Need-shared-slice-read-if1 Inv-loop μ-loop
 shared-slice-read-if1 c = search needs
 
--- src/arguments.rt:15:13
 returns : tie.Need-returns Inv-loop μ-loop
 returns c =
     let l = c .before .before .before in
     let h : l .loop .end < length (l .before .args .args .now) = search needs in
     (omega (arith, argument-over (l .before .args .args .now) (l .loop .end) h (c .if1 .taken)), search needs)
 
--- src/arguments.rt:17:9
 add-end : tie.Need-add-end Inv-loop μ-loop
 add-end c = search needs
 
--- src/arguments.rt:13:5
 loop-less : tie.Need-loop-less Inv-loop μ-loop
 loop-less c = search needs
 
--- src/arguments.rt:13:5
 loop-again : tie.Need-loop-again Inv-loop μ-loop
 loop-again c =
     let l = c .before .before .before in
     let h : l .loop .end < length (l .before .args .args .now) = search needs in
     (search needs, omega (arith, argument-on (l .before .args .args .now) (l .loop .end) h (c .if1 .left)))
 
--- src/arguments.rt:8:1
 returns-2 : tie.Need-returns-2 Inv-loop μ-loop
 returns-2 c =
     let l = c .before in

@@ -3,18 +3,13 @@ use Rattle.desk_line.proofs.Steps.{dashed-none, dashed-some}
 use borrow.Author.Needs.{needs}
 use Rattle.desk_line.proofs.line.dashed.Statement.{statement}
 use Rattle.desk_line.proofs.line.dashed.Tie as tie
-use Rattle.desk_line.proofs.line.dashed.Reads as reads
-use Rattle.desk_line.proofs.line.dashed.Lts as lts
 
--- src/line.rt:36:9
 returns : tie.Need-returns
 returns c = dashed-none (c .before .args .a .now) (c .if1 .taken)
 
--- src/line.rt:38:5
 shared-slice-read-result : tie.Need-shared-slice-read-result
 shared-slice-read-result c = search needs
 
--- src/line.rt:32:1
 returns-2 : tie.Need-returns-2
 returns-2 c = dashed-some (c .before .before .args .a .now) (search needs)
 

@@ -6,56 +6,37 @@ use Rattle.rules.specs.Base.{pick}
 use Rattle.desk_line.proofs.Whole.{empty-line, whole-line}
 use Rattle.desk_line.proofs.line.options.Statement.{statement}
 use Rattle.desk_line.proofs.line.options.Tie as tie
-use Rattle.desk_line.proofs.line.options.Reads as reads
-use Rattle.desk_line.proofs.line.options.Lts as lts
-use Rattle.desk_line.proofs.arguments.after.Reads as after-reads
-use Rattle.desk_line.proofs.arguments.end_of.Reads as end-of-reads
-use Rattle.desk_line.proofs.line.begun.Reads as begun-reads
-use Rattle.desk_line.proofs.line.closed.Reads as closed-reads
-use Rattle.desk_line.proofs.line.rest.Reads as rest-reads
-use Rattle.desk_line.proofs.states.bare.Reads as bare-reads
-use Rattle.desk_line.proofs.states.nowhere.Reads as nowhere-reads
 
--- src/line.rt:156:53
 nowhere-requires : tie.Need-nowhere-requires
 nowhere-requires c κs = search needs
 
--- src/line.rt:156:9
 bare-requires : tie.Need-bare-requires
 bare-requires c κs = search needs
 
--- src/line.rt:156:9
 returns : tie.Need-returns
 unfolding pick
 returns c =
     let A = c .before .before .before .before .args .args .now in
     c .bare .ensures A ∙ rw (c .before .nowhere .ensures) (empty-line A (c .before .before .if1 .taken))
 
--- src/line.rt:158:9
 end-of-requires : tie.Need-end-of-requires
 end-of-requires c κs = search needs
 
--- src/line.rt:164:22
 slice-aggregate-begun : tie.Need-slice-aggregate-begun
 slice-aggregate-begun c = sym (length-take-le (c .before .end-of .result) (c .before .before .before .before .args .args .now) (c .before .end-of .ensures .1))
 
--- src/line.rt:164:9
 begun-requires : tie.Need-begun-requires
 begun-requires c κs = search needs
 
--- src/line.rt:165:29
 after-requires : tie.Need-after-requires
 after-requires c κs = search needs
 
--- src/line.rt:165:12
 rest-requires : tie.Need-rest-requires
 rest-requires c κs = search needs
 
--- src/line.rt:165:5
 closed-requires : tie.Need-closed-requires
 closed-requires c κs = search needs
 
--- src/line.rt:152:1
 returns-2 : tie.Need-returns-2
 unfolding pick
 returns-2 c =

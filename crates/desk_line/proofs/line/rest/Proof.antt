@@ -10,11 +10,6 @@ use Rattle.desk_line.specs.Said.{said}
 use Rattle.desk_line.proofs.Split.{arguments-next}
 use Rattle.desk_line.proofs.line.rest.Statement.{statement}
 use Rattle.desk_line.proofs.line.rest.Tie as tie
-use Rattle.desk_line.proofs.line.rest.Reads as reads
-use Rattle.desk_line.proofs.line.rest.Lts as lts
-use Rattle.desk_line.proofs.arguments.after.Reads as after-reads
-use Rattle.desk_line.proofs.arguments.end_of.Reads as end-of-reads
-use Rattle.desk_line.proofs.line.step.Reads as step-reads
 
 abbrev Inv-loop : tie.InvT-loop
 Inv-loop args from d₀ at₀ d at =
@@ -23,27 +18,21 @@ Inv-loop args from d₀ at₀ d at =
 abbrev μ-loop : tie.MeasureT-loop
 μ-loop args from d₀ at₀ d at = length args - at
 
--- src/line.rt:113:5
 loop-holds : tie.Need-loop-holds Inv-loop μ-loop
 loop-holds c = (search needs, refl)
 
--- src/line.rt:114:13
 end-of-requires : tie.Need-end-of-requires Inv-loop μ-loop
 end-of-requires c κs = search needs
 
--- src/line.rt:115:9
 step-requires : tie.Need-step-requires Inv-loop μ-loop
 step-requires c κs = search needs
 
--- src/line.rt:116:9
 after-requires : tie.Need-after-requires Inv-loop μ-loop
 after-requires c κs = search needs
 
--- src/line.rt:113:5
 loop-less : tie.Need-loop-less Inv-loop μ-loop
 loop-less c = omega (arith, c .after .ensures, c .before .before .end-of .ensures .0)
 
--- src/line.rt:113:5
 loop-again : tie.Need-loop-again Inv-loop μ-loop
 unfolding folded
 loop-again c =
@@ -55,7 +44,6 @@ loop-again c =
       rw (c .before .step .ensures, c .after .ensures) (sym (ap (folded (said A (l .loop .d))) n) ∙ l .loop .inv .1),
     )
 
--- src/line.rt:107:1
 returns : tie.Need-returns Inv-loop μ-loop
 unfolding folded arguments
 returns c =

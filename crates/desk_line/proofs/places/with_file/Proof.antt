@@ -4,14 +4,10 @@ use Rattle.desk_line.specs.Line.{withFile}
 use borrow.Author.Needs.{needs}
 use Rattle.desk_line.proofs.places.with_file.Statement.{statement}
 use Rattle.desk_line.proofs.places.with_file.Tie as tie
-use Rattle.desk_line.proofs.places.with_file.Reads as reads
-use Rattle.desk_line.proofs.places.with_file.Lts as lts
 
--- src/places.rt:57:16
 add-t4 : tie.Need-add-t4
 add-t4 c = search needs
 
--- src/places.rt:51:1
 returns : tie.Need-returns
 unfolding withFile
 returns c = λ A. refl

@@ -5,19 +5,14 @@ use borrow.Author.Tests.{eq-eqb, ne-eqb}
 use borrow.Author.Needs.{needs}
 use Rattle.desk_line.proofs.places.with_number.Statement.{statement}
 use Rattle.desk_line.proofs.places.with_number.Tie as tie
-use Rattle.desk_line.proofs.places.with_number.Reads as reads
-use Rattle.desk_line.proofs.places.with_number.Lts as lts
 
--- src/places.rt:18:9
 returns : tie.Need-returns
 unfolding withNumber pick
 returns c = λ A. rw (eq-eqb _ _ (c .if1 .taken))
 
--- src/places.rt:27:16
 add-t6 : tie.Need-add-t6
 add-t6 c = search needs
 
--- src/places.rt:11:1
 returns-2 : tie.Need-returns-2
 unfolding withNumber pick
 returns-2 c = λ A. rw (ne-eqb _ _ (c .before .if1 .left))

@@ -4,14 +4,10 @@ use Rattle.desk_line.specs.Line.{withPlan}
 use borrow.Author.Needs.{needs}
 use Rattle.desk_line.proofs.places.with_plan.Statement.{statement}
 use Rattle.desk_line.proofs.places.with_plan.Tie as tie
-use Rattle.desk_line.proofs.places.with_plan.Reads as reads
-use Rattle.desk_line.proofs.places.with_plan.Lts as lts
 
--- src/places.rt:42:16
 add-t4 : tie.Need-add-t4
 add-t4 c = search needs
 
--- src/places.rt:36:1
 returns : tie.Need-returns
 unfolding withPlan
 returns c = λ A. refl

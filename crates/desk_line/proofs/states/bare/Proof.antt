@@ -4,15 +4,10 @@ use Rattle.desk_line.specs.Line.{bare}
 use borrow.Author.Needs.{needs}
 use Rattle.desk_line.proofs.states.bare.Statement.{statement}
 use Rattle.desk_line.proofs.states.bare.Tie as tie
-use Rattle.desk_line.proofs.states.bare.Reads as reads
-use Rattle.desk_line.proofs.states.bare.Lts as lts
-use Rattle.desk_line.proofs.states.nowhere.Reads as nowhere-reads
 
--- src/states.rt:31:9
 nowhere-requires : tie.Need-nowhere-requires
 nowhere-requires c κs = search needs
 
--- src/states.rt:28:1
 returns : tie.Need-returns
 unfolding bare pick
 returns c = λ A. rw (c .nowhere .ensures)

@@ -4,54 +4,40 @@ use Rattle.desk_words.specs.declared.Opt.{Opt}
 use borrow.Author.Needs.{needs}
 use Rattle.desk_line.proofs.states.switch.Statement.{statement}
 use Rattle.desk_line.proofs.states.switch.Tie as tie
-use Rattle.desk_line.proofs.states.switch.Reads as reads
-use Rattle.desk_line.proofs.states.switch.Lts as lts
 
--- src/states.rt:94:24
 enum-told : tie.Need-enum-told
 enum-told c = search needs
 
--- src/states.rt:100:23
 enum-told-2 : tie.Need-enum-told-2
 enum-told-2 c = search needs
 
--- src/states.rt:106:25
 enum-told-3 : tie.Need-enum-told-3
 enum-told-3 c = search needs
 
--- src/states.rt:107:22
 enum-told-4 : tie.Need-enum-told-4
 enum-told-4 c = search needs
 
--- src/states.rt:113:23
 enum-told-5 : tie.Need-enum-told-5
 enum-told-5 c = search needs
 
--- src/states.rt:119:25
 enum-told-6 : tie.Need-enum-told-6
 enum-told-6 c = search needs
 
--- src/states.rt:90:1
 returns : tie.Need-returns
 returns c = let e : c .before .before .args .option ≡ Opt.Fitted = search needs in rw e
 
--- src/states.rt:90:1
 returns-2 : tie.Need-returns-2
 returns-2 c = let e : c .before .before .args .option ≡ Opt.Plain = search needs in rw e
 
--- src/states.rt:90:1
 returns-3 : tie.Need-returns-3
 returns-3 c = let e : c .before .before .args .option ≡ Opt.StandIn = search needs in rw e
 
--- src/states.rt:90:1
 returns-4 : tie.Need-returns-4
 returns-4 c = let e : c .before .before .args .option ≡ Opt.Rows = search needs in rw e
 
--- src/states.rt:90:1
 returns-5 : tie.Need-returns-5
 returns-5 c = let e : c .before .before .args .option ≡ Opt.Crate = search needs in rw e
 
--- src/states.rt:90:1
 returns-6 : tie.Need-returns-6
 returns-6 c = let e : c .before .before .args .option ≡ Opt.Unknown = search needs in rw e
 

@@ -3,20 +3,13 @@ use Rattle.desk_line.specs.Line.{switched}
 use borrow.Author.Needs.{needs}
 use Rattle.desk_line.proofs.states.switched.Statement.{statement}
 use Rattle.desk_line.proofs.states.switched.Tie as tie
-use Rattle.desk_line.proofs.states.switched.Reads as reads
-use Rattle.desk_line.proofs.states.switched.Lts as lts
-use Rattle.desk_line.proofs.states.awaiting.Reads as awaiting-reads
-use Rattle.desk_line.proofs.states.switch.Reads as switch-reads
 
--- src/states.rt:144:9
 switch-requires : tie.Need-switch-requires
 switch-requires c κs = search needs
 
--- src/states.rt:145:9
 awaiting-requires : tie.Need-awaiting-requires
 awaiting-requires c κs = search needs
 
--- src/states.rt:138:1
 returns : tie.Need-returns
 unfolding switched
 returns c = λ A. rw (c .before .before .before .switch .ensures, c .before .before .awaiting .ensures)

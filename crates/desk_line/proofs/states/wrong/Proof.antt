@@ -1,13 +1,9 @@
 -- All other fields are kept.
 use mathlib.Core.Path.{refl}
 use Rattle.desk_line.specs.Line.{wrong}
-use borrow.Author.Needs.{needs}
 use Rattle.desk_line.proofs.states.wrong.Statement.{statement}
 use Rattle.desk_line.proofs.states.wrong.Tie as tie
-use Rattle.desk_line.proofs.states.wrong.Reads as reads
-use Rattle.desk_line.proofs.states.wrong.Lts as lts
 
--- src/states.rt:71:1
 returns : tie.Need-returns
 unfolding wrong
 returns c = λ A. refl

@@ -1,40 +1,31 @@
 -- Past the table's end there is no depth: it has at most 257 nodes.
 use mathlib.Core.Path.{sym}
 use Prim.Native.Nat.{_*_}
-use native.Mathlib.Omega.{arith}
 use lib.ListN.{List·getD-eq-default}
 use Rattle.rules.specs.Plan.{depthIn}
 use borrow.Author.Needs.{needs}
 use Rattle.desk_page.proofs.ending.depth_of.Statement.{statement}
 use Rattle.desk_page.proofs.ending.depth_of.Tie as tie
-use Rattle.desk_page.proofs.ending.depth_of.Reads as reads
-use Rattle.desk_page.proofs.ending.depth_of.Lts as lts
 
--- src/ending.rt:39:17
 mul-k : tie.Need-mul-k
 mul-k c = search needs
 
--- src/ending.rt:41:20
 mul-result : tie.Need-mul-result
 mul-result c = search needs
 
--- src/ending.rt:41:20
 shared-slice-read-result : tie.Need-shared-slice-read-result
 shared-slice-read-result c = search needs
 
--- src/ending.rt:41:13
 returns : tie.Need-returns
 unfolding depthIn
 returns c = search needs
 
--- src/ending.rt:34:1
 returns-2 : tie.Need-returns-2
 unfolding depthIn
 returns-2 c =
     let a = c .before .before .args in
     sym (List·getD-eq-default (a .table .now) 0 {n = 3 * a .node} (search needs))
 
--- src/ending.rt:34:1
 returns-3 : tie.Need-returns-3
 unfolding depthIn
 returns-3 c =

@@ -5,27 +5,16 @@ use Rattle.desk_page.proofs.Pages.{shown-equal, done-page, refused-page
 use borrow.Author.Needs.{needs}
 use Rattle.desk_page.proofs.ending.finish.Statement.{statement}
 use Rattle.desk_page.proofs.ending.finish.Tie as tie
-use Rattle.desk_page.proofs.ending.finish.Reads as reads
-use Rattle.desk_page.proofs.ending.finish.Lts as lts
-use Rattle.desk_page.proofs.ending.put_out.Reads as put-out-reads
-use Rattle.desk_page.proofs.ending.refuse.Reads as refuse-reads
-use Rattle.rules.proofs.done.Reads as done-reads
-use Rattle.rules.proofs.number.Reads as number-reads
-use Rattle.rules.proofs.second.Reads as second-reads
 
--- src/ending.rt:61:9
 second-requires : tie.Need-second-requires
 second-requires c κs = search needs
 
--- src/ending.rt:62:8
 done-requires : tie.Need-done-requires
 done-requires c κs = search needs
 
--- src/ending.rt:63:9
 put-out-requires : tie.Need-put-out-requires
 put-out-requires c κs = search needs
 
--- src/ending.rt:63:9
 returns : tie.Need-returns
 returns c = λ t w.
     let at-second = c .before .before .before in
@@ -34,19 +23,15 @@ returns c = λ t w.
     (c .put-out .ensures ∙ shown-equal false _ _ (at-second .second .ensures))
     w
 
--- src/ending.rt:65:19
 number-requires : tie.Need-number-requires
 number-requires c κs = search needs
 
--- src/ending.rt:65:5
 refuse-requires : tie.Need-refuse-requires
 refuse-requires c κs = search needs
 
--- src/ending.rt:57:1
 same-length : tie.Need-same-length
 same-length c = search needs
 
--- src/ending.rt:57:1
 returns-2 : tie.Need-returns-2
 returns-2 c = λ t w.
     let at-refuse = c .before .before in

@@ -3,59 +3,45 @@ use borrow.Author.Needs.{needs}
 use Rattle.json.specs.Import.{importNumber}
 use Rattle.desk_plan.proofs.ends.import_number.Statement.{statement}
 use Rattle.desk_plan.proofs.ends.import_number.Tie as tie
-use Rattle.desk_plan.proofs.ends.import_number.Reads as reads
-use Rattle.desk_plan.proofs.ends.import_number.Lts as lts
 
--- src/ends.rt:39:30
 enum-told : tie.Need-enum-told
 enum-told c = search needs
 
--- src/ends.rt:40:27
 enum-told-2 : tie.Need-enum-told-2
 enum-told-2 c = search needs
 
--- src/ends.rt:41:31
 enum-told-3 : tie.Need-enum-told-3
 enum-told-3 c = search needs
 
--- src/ends.rt:42:27
 enum-told-4 : tie.Need-enum-told-4
 enum-told-4 c = search needs
 
--- src/ends.rt:43:30
 enum-told-5 : tie.Need-enum-told-5
 enum-told-5 c = search needs
 
--- src/ends.rt:44:32
 enum-told-6 : tie.Need-enum-told-6
 enum-told-6 c = search needs
 
--- src/ends.rt:35:1
 returns : tie.Need-returns
 unfolding importNumber
 returns c = search needs
 
--- src/ends.rt:35:1
 returns-2 : tie.Need-returns-2
 unfolding importNumber
 returns-2 c = search needs
 
--- src/ends.rt:35:1
 returns-3 : tie.Need-returns-3
 unfolding importNumber
 returns-3 c = search needs
 
--- src/ends.rt:35:1
 returns-4 : tie.Need-returns-4
 unfolding importNumber
 returns-4 c = search needs
 
--- src/ends.rt:35:1
 returns-5 : tie.Need-returns-5
 unfolding importNumber
 returns-5 c = search needs
 
--- src/ends.rt:35:1
 returns-6 : tie.Need-returns-6
 unfolding importNumber
 returns-6 c = search needs

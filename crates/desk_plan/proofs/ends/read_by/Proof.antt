@@ -1,28 +1,21 @@
 -- By the number.
 use native.Mathlib.Omega.{arith}
-use borrow.Author.Tests.{eq-eqb, ne-eqb}
+use borrow.Author.Tests.{ne-eqb}
 use Rattle.rules.specs.Base.{pick}
 use Rattle.desk_plan.specs.Ends.{readBy}
 use Rattle.desk_plan.proofs.ends.read_by.Statement.{statement}
 use Rattle.desk_plan.proofs.ends.read_by.Tie as tie
-use Rattle.desk_plan.proofs.ends.read_by.Reads as reads
-use Rattle.desk_plan.proofs.ends.read_by.Lts as lts
-use Rattle.desk_plan.proofs.ends.titles_end.Reads as titles-end-reads
 
--- src/ends.rt:29:29
 mul-t5 : tie.Need-mul-t5
 mul-t5 c = omega (arith, c .before .before .pre (c .if1 .taken) .0)
 
--- src/ends.rt:29:41
 titles-end-requires : tie.Need-titles-end-requires
 titles-end-requires c κs = c .before .before .pre (c .if1 .taken)
 
--- src/ends.rt:29:9
 returns : tie.Need-returns
 unfolding readBy pick
 returns c = rw (c .before .if1 .taken, c .titles-end .ensures)
 
--- src/ends.rt:24:1
 returns-2 : tie.Need-returns-2
 unfolding readBy pick
 returns-2 c = rw (ne-eqb _ 0 (c .if1 .left))

@@ -6,62 +6,46 @@ use Rattle.desk_plan.proofs.Ended.{last-title}
 use borrow.Author.Needs.{needs}
 use Rattle.desk_plan.proofs.ends.titles_end.Statement.{statement}
 use Rattle.desk_plan.proofs.ends.titles_end.Tie as tie
-use Rattle.desk_plan.proofs.ends.titles_end.Reads as reads
-use Rattle.desk_plan.proofs.ends.titles_end.Lts as lts
-use Rattle.text.proofs.wide.Reads as wide-reads
 
--- src/ends.rt:17:9
 returns : tie.Need-returns
 unfolding titlesEnd pick
 returns c = rw (c .if1 .taken)
 
--- src/ends.rt:19:18
 sub-k : tie.Need-sub-k
 sub-k c = search needs
 
--- src/ends.rt:19:13
 mul-k : tie.Need-mul-k
 mul-k c = search needs
 
--- src/ends.rt:20:16
 add-wide : tie.Need-add-wide
 add-wide c = search needs
 
--- src/ends.rt:20:10
 mul-wide : tie.Need-mul-wide
 mul-wide c = search needs
 
--- src/ends.rt:20:10
 shared-slice-read-wide : tie.Need-shared-slice-read-wide
 shared-slice-read-wide c = search needs
 
--- src/ends.rt:20:5
 wide-requires : tie.Need-wide-requires
 wide-requires c κs = search needs
 
--- src/ends.rt:20:37
 add-wide-2 : tie.Need-add-wide-2
 add-wide-2 c = search needs
 
--- src/ends.rt:20:31
 mul-wide-2 : tie.Need-mul-wide-2
 mul-wide-2 c = search needs
 
--- src/ends.rt:20:31
 shared-slice-read-wide-2 : tie.Need-shared-slice-read-wide-2
 shared-slice-read-wide-2 c = search needs
 
--- src/ends.rt:20:26
 wide-requires-2 : tie.Need-wide-requires-2
 wide-requires-2 c κs = search needs
 
--- src/ends.rt:20:5
 add-result : tie.Need-add-result
 add-result c =
     let a = c .before .before .before .before .before .before .args in
     omega (arith, last-title (a .table .now) (a .n) (c .before .before .before .before .if1 .left), c .before .before .wide .ensures, c .wide2 .ensures)
 
--- src/ends.rt:12:1
 returns-2 : tie.Need-returns-2
 returns-2 c =
     let a = c .before .before .before .before .before .before .args in

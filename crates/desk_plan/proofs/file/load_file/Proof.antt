@@ -7,43 +7,30 @@ use Rattle.desk_plan.proofs.Filed.{few-entries, offset-small, file-load
 use borrow.Author.Needs.{needs}
 use Rattle.desk_plan.proofs.file.load_file.Statement.{statement}
 use Rattle.desk_plan.proofs.file.load_file.Tie as tie
-use Rattle.desk_plan.proofs.file.load_file.Reads as reads
-use Rattle.desk_plan.proofs.file.load_file.Lts as lts
-use Rattle.desk_plan.proofs.file.entries_of.Reads as entries-of-reads
-use Rattle.desk_plan.proofs.file.offset_of.Reads as offset-of-reads
-use Rattle.plan_file.proofs.words.Reads as words-reads
-use Rattle.put.proofs.bytes.Reads as bytes-reads
 
--- src/file.rt:33:9
 offset-of-requires : tie.Need-offset-of-requires
 offset-of-requires c κs = search needs
 
--- src/file.rt:34:9
 entries-of-requires : tie.Need-entries-of-requires
 entries-of-requires c κs = search needs
 
--- src/file.rt:35:36
 slice-relend-prefix-words : tie.Need-slice-relend-prefix-words
 slice-relend-prefix-words c = omega (arith, few-entries (c .before .before .before .before .before .args .file .now))
 
--- src/file.rt:35:36
 slice-aggregate-words : tie.Need-slice-aggregate-words
 slice-aggregate-words c =
     let a = c .before .before .before .before .before .before .args in
     sym (length-take-le _ (a .table .now) (omega (arith, few-entries (a .file .now))))
 
--- src/file.rt:35:5
 words-requires : tie.Need-words-requires
 words-requires c κs = search needs
 
--- src/file.rt:36:27
 slice-aggregate-bytes : tie.Need-slice-aggregate-bytes
 slice-aggregate-bytes c =
     let at-entries = c .before .before .before .before .before .before in
     let s = at-entries .before .before .before .before .before in
     sym (length-take-le _ (s .args .file .now) (omega (arith, whole-form (s .args .file .now) (s .pre .0) .sum)))
 
--- src/file.rt:36:5
 bytes-requires : tie.Need-bytes-requires
 bytes-requires c κs =
     let at-entries = c .before .before .before .before .before .before in
@@ -51,15 +38,12 @@ bytes-requires c κs =
     let f = s .args .file .now in
     omega (arith, length-take-le (at-entries .before .offset-of .result) f (omega (arith, whole-form f (s .pre .0) .sum)), offset-small f (s .pre .0))
 
--- src/file.rt:29:1
 same-length : tie.Need-same-length
 same-length c = search needs
 
--- src/file.rt:29:1
 same-length-2 : tie.Need-same-length-2
 same-length-2 c = search needs
 
--- src/file.rt:29:1
 returns : tie.Need-returns
 returns c =
     let at-words = c .before .before .before .before .before .before .before in

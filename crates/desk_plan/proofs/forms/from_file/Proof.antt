@@ -5,32 +5,22 @@ use Rattle.desk_plan.specs.Loads.{Refuses, Loads}
 use borrow.Author.Needs.{needs}
 use Rattle.desk_plan.proofs.forms.from_file.Statement.{statement}
 use Rattle.desk_plan.proofs.forms.from_file.Tie as tie
-use Rattle.desk_plan.proofs.forms.from_file.Reads as reads
-use Rattle.desk_plan.proofs.forms.from_file.Lts as lts
-use Rattle.desk_plan.proofs.file.load_file.Reads as load-file-reads
-use Rattle.plan_file.proofs.formed.Reads as formed-reads
 
--- src/forms.rt:29:9
 formed-requires : tie.Need-formed-requires
 formed-requires c κs = search needs
 
--- src/forms.rt:30:9
 returns : tie.Need-returns
 returns c = Loads.refused (Refuses.broken (search needs) (sym (c .before .formed .ensures) ∙ not-true _ (c .if1 .taken)) refl refl) refl refl refl
 
--- src/forms.rt:32:5
 load-file-requires : tie.Need-load-file-requires
 load-file-requires c κs = (sym (c .before .before .before .formed .ensures) ∙ not-false _ (c .before .before .if1 .left), search needs, search needs)
 
--- src/forms.rt:25:1
 same-length : tie.Need-same-length
 same-length c = search needs
 
--- src/forms.rt:25:1
 same-length-2 : tie.Need-same-length-2
 same-length-2 c = search needs
 
--- src/forms.rt:25:1
 returns-2 : tie.Need-returns-2
 returns-2 c = search needs
 

@@ -1,6 +1,5 @@
 -- Five bytes at least, and the first five are the word.
 use mathlib.Core.Path.{sym, _∙_}
-use native.Mathlib.Omega.{arith}
 use borrow.Author.Tests.{lt-leb, le-leb}
 use lib.ListN.{length}
 use lib.Seq.{length-take-le}
@@ -12,28 +11,20 @@ use Rattle.desk_plan.specs.Loads.{graphed}
 use borrow.Author.Needs.{needs}
 use Rattle.desk_plan.proofs.forms.graphed.Statement.{statement}
 use Rattle.desk_plan.proofs.forms.graphed.Tie as tie
-use Rattle.desk_plan.proofs.forms.graphed.Reads as reads
-use Rattle.desk_plan.proofs.forms.graphed.Lts as lts
-use Rattle.desk_words.proofs.alike.Reads as alike-reads
 
--- src/forms.rt:19:9
 returns : tie.Need-returns
 unfolding graphed
 returns c = rw (lt-leb 5 (length (c .before .before .args .input .now)) (search needs))
 
--- src/forms.rt:21:23
 slice-aggregate-alike : tie.Need-slice-aggregate-alike
 slice-aggregate-alike c = sym (length-take-le 5 (c .before .before .before .args .input .now) (search needs))
 
--- src/forms.rt:21:36
 slice-aggregate-alike-2 : tie.Need-slice-aggregate-alike-2
 slice-aggregate-alike-2 c = search needs
 
--- src/forms.rt:21:5
 alike-requires : tie.Need-alike-requires
 alike-requires c κs = search needs
 
--- src/forms.rt:15:1
 returns-2 : tie.Need-returns-2
 unfolding graphed bytes concat letters utf8 pick
 returns-2 c = rw (le-leb 5 (length (c .before .before .before .before .before .args .input .now)) (search needs)) (c .alike .ensures)

@@ -3,67 +3,46 @@ use mathlib.Core.Path.{sym, _∙_}
 use borrow.Author.Needs.{needs}
 use Rattle.desk_plan.proofs.input.load.Statement.{statement}
 use Rattle.desk_plan.proofs.input.load.Tie as tie
-use Rattle.desk_plan.proofs.input.load.Reads as reads
-use Rattle.desk_plan.proofs.input.load.Lts as lts
-use Rattle.desk_plan.proofs.forms.from_file.Reads as from-file-reads
-use Rattle.desk_plan.proofs.forms.from_graph.Reads as from-graph-reads
-use Rattle.desk_plan.proofs.forms.from_json.Reads as from-json-reads
-use Rattle.desk_plan.proofs.forms.graphed.Reads as graphed-reads
-use Rattle.plan_file.proofs.ends_in_tree.Reads as ends-in-tree-reads
 
--- src/input.rt:13:8
 ends-in-tree-requires : tie.Need-ends-in-tree-requires
 ends-in-tree-requires c κs = search needs
 
--- src/input.rt:14:9
 from-file-requires : tie.Need-from-file-requires
 from-file-requires c κs = (sym (c .before .before .before .ends-in-tree .ensures) ∙ c .before .before .if1 .taken, search needs, search needs)
 
--- src/input.rt:14:9
 same-length : tie.Need-same-length
 same-length c = search needs
 
--- src/input.rt:14:9
 same-length-2 : tie.Need-same-length-2
 same-length-2 c = search needs
 
--- src/input.rt:14:9
 returns : tie.Need-returns
 returns c = search needs
 
--- src/input.rt:16:8
 graphed-requires : tie.Need-graphed-requires
 graphed-requires c κs = search needs
 
--- src/input.rt:17:9
 from-graph-requires : tie.Need-from-graph-requires
 from-graph-requires c κs = (sym (c .before .before .before .before .before .ends-in-tree .ensures) ∙ c .before .before .before .before .if1 .left, sym (c .before .before .before .graphed .ensures) ∙ c .before .before .if2 .taken, search needs)
 
--- src/input.rt:17:9
 same-length-3 : tie.Need-same-length-3
 same-length-3 c = search needs
 
--- src/input.rt:17:9
 same-length-4 : tie.Need-same-length-4
 same-length-4 c = search needs
 
--- src/input.rt:17:9
 returns-2 : tie.Need-returns-2
 returns-2 c = search needs
 
--- src/input.rt:19:5
 from-json-requires : tie.Need-from-json-requires
 from-json-requires c κs = (sym (c .before .before .before .before .before .ends-in-tree .ensures) ∙ c .before .before .before .before .if1 .left, sym (c .before .before .before .graphed .ensures) ∙ c .before .before .if2 .left, search needs)
 
--- src/input.rt:9:1
 same-length-5 : tie.Need-same-length-5
 same-length-5 c = search needs
 
--- src/input.rt:9:1
 same-length-6 : tie.Need-same-length-6
 same-length-6 c = search needs
 
--- src/input.rt:9:1
 returns-3 : tie.Need-returns-3
 returns-3 c = search needs
 

@@ -3,45 +3,31 @@ use Rattle.desk_read.proofs.Read.{picture-few, picture-loads}
 use borrow.Author.Needs.{needs}
 use Rattle.desk_read.proofs.pictures.load_picture.Statement.{statement}
 use Rattle.desk_read.proofs.pictures.load_picture.Tie as tie
-use Rattle.desk_read.proofs.pictures.load_picture.Reads as reads
-use Rattle.desk_read.proofs.pictures.load_picture.Lts as lts
-use Rattle.desk_plan.proofs.read_by.Reads as read-by-reads
-use Rattle.picture.proofs.read_as.Reads as read-as-reads
-use Rattle.rules.proofs.reading_number.Reads as reading-number-reads
-use Rattle.rules.proofs.reading_second.Reads as reading-second-reads
 
--- src/pictures.rt:22:9
 read-as-requires : tie.Need-read-as-requires
 read-as-requires c κs = search needs
 
--- src/pictures.rt:23:24
 reading-number-requires : tie.Need-reading-number-requires
 reading-number-requires c κs = search needs
 
--- src/pictures.rt:23:50
 reading-second-requires : tie.Need-reading-second-requires
 reading-second-requires c κs = search needs
 
--- src/pictures.rt:23:5
 read-by-requires : tie.Need-read-by-requires
 read-by-requires c κs =
     let at-number = c .before .before in
     let at-read = at-number .before .before .before .before .before .before .before in
     rw (at-number .reading-number .ensures, c .before .reading-second .ensures) (picture-few (at-read .read-as .ensures) (search needs))
 
--- src/pictures.rt:11:1
 same-length : tie.Need-same-length
 same-length c = search needs
 
--- src/pictures.rt:11:1
 same-length-2 : tie.Need-same-length-2
 same-length-2 c = search needs
 
--- src/pictures.rt:11:1
 same-length-3 : tie.Need-same-length-3
 same-length-3 c = search needs
 
--- src/pictures.rt:11:1
 returns : tie.Need-returns
 returns c =
     let at-number = c .before .before .before in

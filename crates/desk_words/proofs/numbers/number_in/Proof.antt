@@ -1,21 +1,16 @@
 -- Digits all as far as the loop came, and v is what they write: the number is told by what follows.
 use mathlib.Core.Path.{_≡_, refl, sym, _∙_}
-use mathlib.Core.Bool.{true, false, _&&_}
 use Prim.Native.Nat.{_+_, _≤_, _-_, _<_, _^_}
 use native.Mathlib.Omega.{arith}
 use lib.ListN.{length, drop, getD, drop-of-length-le}
 use borrow.Author.Tests.{not-true, not-false}
 use borrow.Author.Needs.{needs}
-use Rattle.rules.specs.Base.{pick, every}
+use Rattle.rules.specs.Base.{every}
 use Rattle.rules.specs.Utf8.{span}
-use Rattle.desk_words.specs.Numbers.{valueFrom, numberIn}
+use Rattle.desk_words.specs.Numbers.{valueFrom}
 use Rattle.desk_words.proofs.Values.{value-grows, value-next, every-next, no-number, too-large, a-number, none-written, digit-within}
 use Rattle.desk_words.proofs.numbers.number_in.Statement.{statement}
 use Rattle.desk_words.proofs.numbers.number_in.Tie as tie
-use Rattle.desk_words.proofs.numbers.number_in.Reads as reads
-use Rattle.desk_words.proofs.numbers.number_in.Lts as lts
-use Rattle.desk_words.proofs.numbers.digit.Reads as digit-reads
-use Rattle.desk_words.proofs.numbers.grown.Reads as grown-reads
 
 abbrev Inv-loop : tie.InvT-loop
 Inv-loop a v₀ i₀ v i =
@@ -26,30 +21,24 @@ Inv-loop a v₀ i₀ v i =
 abbrev μ-loop : tie.MeasureT-loop
 μ-loop a v₀ i₀ v i = length a - i
 
--- src/numbers.rt:31:9
 returns : tie.Need-returns Inv-loop μ-loop
 returns c = none-written (c .before .before .args .a .now) (c .if1 .taken)
 
--- src/numbers.rt:35:5
 loop-holds : tie.Need-loop-holds Inv-loop μ-loop
 loop-holds c = (omega arith, omega arith, omega arith, refl, refl)
 
--- src/numbers.rt:36:17
 shared-slice-read-b : tie.Need-shared-slice-read-b Inv-loop μ-loop
 shared-slice-read-b c = search needs
 
--- src/numbers.rt:37:13
 digit-requires : tie.Need-digit-requires Inv-loop μ-loop
 digit-requires c κs = search needs
 
--- src/numbers.rt:38:13
 returns-2 : tie.Need-returns-2 Inv-loop μ-loop
 returns-2 c =
     let l = c .before .before .before .before in
     let a = l .before .before .before .args .a .now in
     no-number a (l .loop .inv .3 ∙ every-next (span 0x30 0x39) a (l .loop .i) (search needs) ∙ rw (sym (c .before .digit .ensures) ∙ not-true _ (c .if2 .taken)))
 
--- src/numbers.rt:40:9
 grown-requires : tie.Need-grown-requires Inv-loop μ-loop
 grown-requires c κs =
     let l = c .before .before .before .before in
@@ -57,7 +46,6 @@ grown-requires c κs =
     let d = digit-within (getD a (l .loop .i) 0) (sym (c .before .digit .ensures) ∙ not-false _ (c .if2 .left)) in
     (search needs, d .0, d .1)
 
--- src/numbers.rt:42:13
 returns-3 : tie.Need-returns-3 Inv-loop μ-loop
 returns-3 c =
     let l = c .before .before .before .before .before .before in
@@ -67,15 +55,12 @@ returns-3 c =
     let e : valueFrom 0 a ≡ valueFrom (c .before .grown .result) (drop (l .loop .i + 1) a) = l .loop .inv .4 ∙ v ∙ rw (c .before .grown .ensures) in
     too-large a (omega arith)
 
--- src/numbers.rt:44:9
 add-i : tie.Need-add-i Inv-loop μ-loop
 add-i c = search needs
 
--- src/numbers.rt:35:5
 loop-less : tie.Need-loop-less Inv-loop μ-loop
 loop-less c = search needs
 
--- src/numbers.rt:35:5
 loop-again : tie.Need-loop-again Inv-loop μ-loop
 loop-again c =
     let l = c .before .before .before .before .before .before in
@@ -88,11 +73,9 @@ loop-again c =
       l .loop .inv .4 ∙ value-next (l .loop .v) a (l .loop .i) (search needs) ∙ rw (c .before .grown .ensures),
     )
 
--- src/numbers.rt:46:16
 cast-t12 : tie.Need-cast-t12 Inv-loop μ-loop
 cast-t12 c = search needs
 
--- src/numbers.rt:27:1
 returns-4 : tie.Need-returns-4 Inv-loop μ-loop
 unfolding every valueFrom
 returns-4 c =

@@ -1,15 +1,13 @@
 -- As far as the loop came the two are the same, so they are the same if what follows is.
 use mathlib.Core.Path.{_≡_, refl, sym, _∙_}
-use Prim.Native.Nat.{_≤_, _-_, _<_}
+use Prim.Native.Nat.{_≤_, _-_}
 use native.Mathlib.Omega.{arith}
-use lib.ListN.{length, drop, getD, drop-of-length-le}
+use lib.ListN.{length, drop, drop-of-length-le}
 use borrow.Author.Needs.{needs}
 use Rattle.rules.specs.Base.{same}
 use Rattle.desk_words.proofs.Compared.{same-lengths, same-differs, same-next}
 use Rattle.desk_words.proofs.words.alike.Statement.{statement}
 use Rattle.desk_words.proofs.words.alike.Tie as tie
-use Rattle.desk_words.proofs.words.alike.Reads as reads
-use Rattle.desk_words.proofs.words.alike.Lts as lts
 
 abbrev Inv-loop : tie.InvT-loop
 Inv-loop a b i₀ i = (i ≤ length a) × (length a ≡ length b) × (same a b ≡ same (drop i a) (drop i b))
@@ -17,45 +15,36 @@ Inv-loop a b i₀ i = (i ≤ length a) × (length a ≡ length b) × (same a b �
 abbrev μ-loop : tie.MeasureT-loop
 μ-loop a b i₀ i = length a - i
 
--- src/words.rt:13:9
 returns : tie.Need-returns Inv-loop μ-loop
 returns c = sym (same-lengths (c .before .args .a .now) (c .before .args .b .now) (λ e. absurd (omega arith)))
 
--- src/words.rt:16:5
 loop-holds : tie.Need-loop-holds Inv-loop μ-loop
 loop-holds c = (omega arith, search needs, refl)
 
--- src/words.rt:17:12
 shared-slice-read-if2 : tie.Need-shared-slice-read-if2 Inv-loop μ-loop
 shared-slice-read-if2 c = search needs
 
--- src/words.rt:17:20
 shared-slice-read-if2-2 : tie.Need-shared-slice-read-if2-2 Inv-loop μ-loop
 shared-slice-read-if2-2 c = search needs
 
--- src/words.rt:18:13
 returns-2 : tie.Need-returns-2 Inv-loop μ-loop
 returns-2 c =
     let l = c .before .before .before .before in
     let s = l .before .before .args in
     sym (l .loop .inv .2 ∙ same-differs (s .a .now) (s .b .now) (l .loop .i) (search needs) (search needs) (c .if2 .taken))
 
--- src/words.rt:20:9
 add-i : tie.Need-add-i Inv-loop μ-loop
 add-i c = search needs
 
--- src/words.rt:16:5
 loop-less : tie.Need-loop-less Inv-loop μ-loop
 loop-less c = search needs
 
--- src/words.rt:16:5
 loop-again : tie.Need-loop-again Inv-loop μ-loop
 loop-again c =
     let l = c .before .before .before .before in
     let s = l .before .before .args in
     (omega arith, search needs, l .loop .inv .2 ∙ same-next (s .a .now) (s .b .now) (l .loop .i) (search needs) (search needs) (c .if2 .left))
 
--- src/words.rt:9:1
 returns-3 : tie.Need-returns-3 Inv-loop μ-loop
 unfolding same
 returns-3 c =

@@ -65,17 +65,19 @@ previous-cell-requires-2 c κs = search needs
 loop-less : tie.Need-loop-less Inv-loop μ-loop
 unfolding depthIn
 loop-less c =
-    let s = c .before .before .before .before .before .before .before .before .before .before .before in
+    let at-loop = c .before .before .before .before .before .before in
+    let s = at-loop .before .before .before .before .before in
     let a = s .args in
-    let l = c .before .before .before .before .before .before .loop in
+    let l = at-loop .loop in
     rw (c .previous-cell2 .ensures) (met (a .given) (a .table .now) (a .k) (depthIn (a .table .now) (a .k) + 1) (l .m) (search needs) .high)
 
 loop-again : tie.Need-loop-again Inv-loop μ-loop
 unfolding depthIn
 loop-again c =
-    let s = c .before .before .before .before .before .before .before .before .before .before .before in
+    let at-loop = c .before .before .before .before .before .before in
+    let s = at-loop .before .before .before .before .before in
     let a = s .args in
-    let l = c .before .before .before .before .before .before .loop in
+    let l = at-loop .loop in
     let i = depthIn (a .table .now) (a .k) + 1 in
     let f = formOf (a .fenced) in
     let r = met (a .given) (a .table .now) (a .k) i (l .m) (search needs) in

@@ -53,9 +53,10 @@ loop-less c = search needs
 
 loop-again : tie.Need-loop-again Inv-loop μ-loop
 loop-again c =
-    let s = c .before .before .before .before .before .before .before .before .before .before .before in
+    let at-loop = c .before .before .before .before .before in
+    let s = at-loop .before .before .before .before .before .before in
     let a = s .args in
-    let l = c .before .before .before .before .before .loop in
+    let l = at-loop .loop in
     let p = planShown (a .given) (a .standin .now) (a .table .now) (a .titles .now) in
     (search needs, l .inv .1, rw (one-row-more (formOf (a .fenced)) p (l .i)) (then (l .inv .2) (c .before .before .row .ensures)))
 

@@ -1,19 +1,17 @@
 -- The loop's invariant: k has a cell in the row or is the end, and what is left to put are the row's entries from k on.
 use borrow.Author.Needs.{needs}
-use mathlib.Core.Path.{_≡_, refl}
-use mathlib.Core.List.{_++_}
+use mathlib.Core.Path.{_≡_}
 use mathlib.Core.Bool.{true}
 use Prim.Native.Nat.{_≤_, _<_, _+_, _-_}
 use native.Mathlib.Omega.{arith}
 use Rattle.rules.specs.Base.{concat}
-use Rattle.rules.specs.Plan.{depthIn}
 use Rattle.levels.specs.Shown.{planShown}
 use Rattle.levels.proofs.Shown.{shows}
 use Rattle.levels.specs.Cells.{cellIn}
 use Rattle.graphs.specs.Forms.{formOf}
-use Rattle.graphs.specs.Entries.{lead, edgesIn, nodeIn, backward, rowEntries}
+use Rattle.graphs.specs.Entries.{lead, cellEntries, rowEntries}
 use Rattle.put.proofs.Puts.{Left, all, step, fits, end}
-use Rattle.graphs.proofs.Rows.{rowFrom, row-whole, reached, row-turn, row-out}
+use Rattle.graphs.proofs.Rows.{rowFrom, row-whole, reached, row-cell, row-out}
 use Rattle.graphs.proofs.graph.row.Statement.{statement}
 use Rattle.graphs.proofs.graph.row.Tie as tie
 
@@ -42,70 +40,46 @@ add-next-cell c = search needs
 next-cell-requires-2 : tie.Need-next-cell-requires-2 Inv-loop μ-loop
 next-cell-requires-2 c κs = search needs
 
-node-requires : tie.Need-node-requires Inv-loop μ-loop
-node-requires c κs =
-    let s = c .before .before .before .before .before .before .before .before .before in
+cell-requires : tie.Need-cell-requires Inv-loop μ-loop
+cell-requires c κs =
+    let at-loop = c .before .before .before in
+    let s = at-loop .before .before .before .before .before .before in
     let a = s .args in
     let f = formOf (a .fenced) in
-    let l = c .before .before .before .loop in
+    let l = at-loop .loop in
     let e = c .before .next-cell2 in
-    let T = a .table .now in
-    let t = row-turn (shows (s .pre .0 .0)) f (a .depth) (a .nodes) (l .k) (e .result) (s .pre .0 .2) (e .ensures) (search needs) (l .inv .1 (search needs)) in (
-      (s .pre .0 .0, s .pre .0 .1),
-      (
-        search needs,
-        fits (nodeIn f (planShown (a .given) (a .standin .now) T (a .titles .now)) (l .k)) (edgesIn f T (l .k) (backward (a .given) T (l .k) (e .result) (depthIn T (l .k) + 1)) ++ rowFrom f T (planShown (a .given) (a .standin .now) T (a .titles .now)) (a .depth) (e .result))
-            (l .inv .2) t (s .pre .1),
-      ),
-    )
-
-edges-requires : tie.Need-edges-requires Inv-loop μ-loop
-edges-requires c κs =
-    let s = c .before .before .before .before .before .before .before .before .before .before .before .before .before in
-    let a = s .args in
-    let f = formOf (a .fenced) in
-    let l = c .before .before .before .before .before .before .before .loop in
-    let e = c .before .before .before .before .before .next-cell2 in
-    let T = a .table .now in
-    let ed = edgesIn f T (l .k) (backward (a .given) T (l .k) (e .result) (depthIn T (l .k) + 1)) in
-    let more = rowFrom f T (planShown (a .given) (a .standin .now) T (a .titles .now)) (a .depth) (e .result) in
-    let t = row-turn (shows (s .pre .0 .0)) f (a .depth) (a .nodes) (l .k) (e .result) (s .pre .0 .2) (e .ensures) (search needs) (l .inv .1 (search needs)) in
+    let p = planShown (a .given) (a .standin .now) (a .table .now) (a .titles .now) in
     let r = reached (shows (s .pre .0 .0)) f (a .depth) (a .nodes) (l .k + 1) (e .result) (s .pre .0 .2) (e .ensures) (search needs) in (
-      s .pre .0 .1,
-      (
-        (omega (arith, r .low), omega (arith, r .high, s .pre .0 .2)),
-        fits ed more (step (nodeIn f (planShown (a .given) (a .standin .now) T (a .titles .now)) (l .k)) (ed ++ more) (l .inv .2) t (c .before .before .before .node .ensures)) refl (s .pre .1),
-      ),
+      (s .pre .0 .0, s .pre .0 .1, omega (arith, r .low), omega (arith, r .high, s .pre .0 .2)),
+      fits (cellEntries f (a .given) (a .table .now) p (l .k) (e .result)) (rowFrom f (a .table .now) p (a .depth) (e .result))
+          (l .inv .2) (row-cell (shows (s .pre .0 .0)) f (a .depth) (a .nodes) (l .k) (e .result) (s .pre .0 .2) (e .ensures) (search needs) (l .inv .1 (search needs))) (s .pre .1),
     )
 
 loop-less : tie.Need-loop-less Inv-loop μ-loop
 loop-less c =
-    let s = c .before .before .before .before .before .before .before .before .before .before .before .before .before .before .before .before in
-    let a = s .args in
-    let f = formOf (a .fenced) in
-    let l = c .before .before .before .before .before .before .before .before .before .before .loop in
-    let e = c .before .before .before .before .before .before .before .before .next-cell2 in
-    let T = a .table .now in
-    let ed = edgesIn f T (l .k) (backward (a .given) T (l .k) (e .result) (depthIn T (l .k) + 1)) in
-    let more = rowFrom f T (planShown (a .given) (a .standin .now) T (a .titles .now)) (a .depth) (e .result) in
-    let t = row-turn (shows (s .pre .0 .0)) f (a .depth) (a .nodes) (l .k) (e .result) (s .pre .0 .2) (e .ensures) (search needs) (l .inv .1 (search needs)) in
-    let r = reached (shows (s .pre .0 .0)) f (a .depth) (a .nodes) (l .k + 1) (e .result) (s .pre .0 .2) (e .ensures) (search needs) in omega (arith, r .low, r .high)
+    let at-next-cell2 = c .before .before .before .before in
+    let at-loop = at-next-cell2 .before .before in
+    let s = at-loop .before .before .before .before .before .before in
+    let l = at-loop .loop in
+    let e = at-next-cell2 .next-cell2 in
+    let r = reached (shows (s .pre .0 .0)) (formOf (s .args .fenced)) (s .args .depth) (s .args .nodes) (l .k + 1) (e .result) (s .pre .0 .2) (e .ensures) (search needs) in
+    omega (arith, r .low, r .high)
 
 loop-again : tie.Need-loop-again Inv-loop μ-loop
 loop-again c =
-    let s = c .before .before .before .before .before .before .before .before .before .before .before .before .before .before .before .before in
+    let at-next-cell2 = c .before .before .before .before in
+    let at-loop = at-next-cell2 .before .before in
+    let s = at-loop .before .before .before .before .before .before in
     let a = s .args in
     let f = formOf (a .fenced) in
-    let l = c .before .before .before .before .before .before .before .before .before .before .loop in
-    let e = c .before .before .before .before .before .before .before .before .next-cell2 in
-    let T = a .table .now in
-    let ed = edgesIn f T (l .k) (backward (a .given) T (l .k) (e .result) (depthIn T (l .k) + 1)) in
-    let more = rowFrom f T (planShown (a .given) (a .standin .now) T (a .titles .now)) (a .depth) (e .result) in
-    let t = row-turn (shows (s .pre .0 .0)) f (a .depth) (a .nodes) (l .k) (e .result) (s .pre .0 .2) (e .ensures) (search needs) (l .inv .1 (search needs)) in
+    let l = at-loop .loop in
+    let e = at-next-cell2 .next-cell2 in
+    let p = planShown (a .given) (a .standin .now) (a .table .now) (a .titles .now) in
     let r = reached (shows (s .pre .0 .0)) f (a .depth) (a .nodes) (l .k + 1) (e .result) (s .pre .0 .2) (e .ensures) (search needs) in (
       r .high,
       r .has,
-      step ed more (step (nodeIn f (planShown (a .given) (a .standin .now) T (a .titles .now)) (l .k)) (ed ++ more) (l .inv .2) t (c .before .before .before .before .before .before .node .ensures)) refl (c .before .before .edges .ensures),
+      step (cellEntries f (a .given) (a .table .now) p (l .k) (e .result)) (rowFrom f (a .table .now) p (a .depth) (e .result))
+          (l .inv .2) (row-cell (shows (s .pre .0 .0)) f (a .depth) (a .nodes) (l .k) (e .result) (s .pre .0 .2) (e .ensures) (search needs) (l .inv .1 (search needs))) (c .before .before .cell .ensures),
     )
 
 same-length : tie.Need-same-length Inv-loop μ-loop
@@ -128,8 +102,7 @@ row-spec =
     loop-holds
     add-next-cell
     next-cell-requires-2
-    node-requires
-    edges-requires
+    cell-requires
     loop-less
     loop-again
     same-length

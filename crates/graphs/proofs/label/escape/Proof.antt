@@ -49,8 +49,9 @@ same-length-3 c = search needs
 
 returns-3 : tie.Need-returns-3
 returns-3 c =
-    rw (backslash (c .before .before .before .before .before .before .before .before .before .args .b) (search needs) (search needs) (search needs))
-    (c .before .before .bytes3 .ensures)
+    let at-bytes3 = c .before .before in
+    rw (backslash (at-bytes3 .before .before .before .before .before .before .before .args .b) (search needs) (search needs) (search needs))
+    (at-bytes3 .bytes3 .ensures)
 
 byte-requires : tie.Need-byte-requires
 byte-requires c κs =

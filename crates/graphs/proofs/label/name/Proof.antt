@@ -22,12 +22,14 @@ decimal-requires c κs = (
 
 between-requires : tie.Need-between-requires
 between-requires c κs =
-    let s = c .before .before .before .before .before .before .before .before .before .before in
+    let at-byte = c .before .before .before .before .before .before .before in
+    let s = at-byte .before .before .before in
     omega (arith, s .pre .2, length-name (formOf (s .args .fenced)) (spot (s .args .i) (s .args .j)))
 
 decimal-requires-2 : tie.Need-decimal-requires-2
 decimal-requires-2 c κs =
-    let s = c .before .before .before .before .before .before .before .before .before .before .before .before .before .before in
+    let at-decimal = c .before .before .before .before .before .before .before in
+    let s = at-decimal .before .before .before .before .before .before .before in
     (search needs, omega (arith, s .pre .2, length-name (formOf (s .args .fenced)) (spot (s .args .i) (s .args .j))))
 
 same-length : tie.Need-same-length
@@ -35,11 +37,11 @@ same-length c = search needs
 
 returns : tie.Need-returns
 returns c =
-    let s = c .before .before .before .before .before .before .before .before .before .before .before .before .before .before .before .before .before .args in
-    let n = c .before .before .before .before .before .before .before .before .before .before .before .before .before .before .byte .ensures in
-    let i = c .before .before .before .before .before .before .before .before .before .before .decimal .ensures in
-    let b = c .before .before .before .before .before .before .between .ensures in
-    rw (name-parts (formOf (s .fenced)) (spot (s .i) (s .j))) (then (then (then n i) b) (c .before .before .decimal2 .ensures))
+    let at-between = c .before .before .before .before .before .before in
+    let at-decimal = at-between .before .before .before .before in
+    let at-byte = at-decimal .before .before .before .before in
+    let s = at-byte .before .before .before .args in
+    rw (name-parts (formOf (s .fenced)) (spot (s .i) (s .j))) (then (then (then (at-byte .byte .ensures) (at-decimal .decimal .ensures)) (at-between .between .ensures)) (c .before .before .decimal2 .ensures))
 
 pub name-spec : {M : Type 1} → statement M
 name-spec =

@@ -4,12 +4,6 @@ use native.Mathlib.Omega.{arith}
 use borrow.Author.Needs.{needs}
 use Rattle.json_fill.proofs.fill.character.Statement.{statement}
 use Rattle.json_fill.proofs.fill.character.Tie as tie
-use Rattle.json_fill.proofs.fill.character.Reads as reads
-use Rattle.json_fill.proofs.fill.character.Lts as lts
-use Rattle.put.proofs.byte.Reads as byte-reads
-use Rattle.json_fill.proofs.points.code.Reads as code-reads
-use Rattle.json_fill.proofs.points.put_point.Reads as put-point-reads
-use Rattle.json_scan.proofs.meant.Reads as meant-reads
 
 shared-slice-read-b : tie.Need-shared-slice-read-b
 shared-slice-read-b c =

@@ -8,10 +8,6 @@ use native.Mathlib.Omega.{arith}
 use borrow.Author.Needs.{needs}
 use Rattle.json_fill.proofs.fill.title.Statement.{statement}
 use Rattle.json_fill.proofs.fill.title.Tie as tie
-use Rattle.json_fill.proofs.fill.title.Reads as reads
-use Rattle.json_fill.proofs.fill.title.Lts as lts
-use Rattle.json_fill.proofs.fill.character.Reads as character-reads
-use Rattle.json_scan.proofs.space.Reads as space-reads
 
 abbrev Inv-loop : tie.InvT-loop
 Inv-loop text at out₀ start i₀ to₀ out i to = Filling text at start out₀ out i to

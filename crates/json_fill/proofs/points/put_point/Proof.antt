@@ -1,7 +1,6 @@
 -- Its bytes are made in four of their own, and put from there.
 use mathlib.Core.Path.{sym}
 use native.Mathlib.Omega.{arith}
-use lib.ListN.{length}
 use lib.Seq.{length-take-le}
 use Rattle.rules.proofs.Codec.{utf8-size}
 use Rattle.json_fill.proofs.Encoded.{within, begins}

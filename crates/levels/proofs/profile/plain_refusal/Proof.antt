@@ -4,7 +4,6 @@ use Rattle.rules.specs.Plan.{count, planOf}
 use Rattle.rules.proofs.Lists.{length-plan}
 use Rattle.levels.proofs.Accepted.{title-fits}
 use Rattle.levels.proofs.Refused.{plain-found, plain-none}
-use borrow.Author.Needs.{needs}
 use Rattle.levels.proofs.profile.plain_refusal.Statement.{statement}
 use Rattle.levels.proofs.profile.plain_refusal.Tie as tie
 

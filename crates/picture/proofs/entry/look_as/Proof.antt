@@ -14,11 +14,11 @@ use Rattle.picture.proofs.entry.look_as.Tie as tie
 marks-of-requires : tie.Need-marks-of-requires
 marks-of-requires c κs = search needs
 
-cast-look : tie.Need-cast-look
-cast-look c = record { fits = omega (arith, c .before .before .before .before .pre .wide) }
+cast-wide : tie.Need-cast-wide
+cast-wide c = record { fits = omega (arith, c .before .before .before .before .pre .wide) }
 
-cast-look-2 : tie.Need-cast-look-2
-cast-look-2 c = record { fits = omega (arith, c .before .before .before .before .pre .high) }
+cast-high : tie.Need-cast-high
+cast-high c = record { fits = omega (arith, c .before .before .before .before .pre .high) }
 
 look-requires : tie.Need-look-requires
 look-requires c κs =
@@ -36,9 +36,9 @@ returns c =
     let l = c .before .before .before .before in
     let m = l .before .before .before in
     let a = m .before .before .before .before .args in
-    subst (λ (k : Marks). Answered (record { len = lenOf (a .measure); marks = k; allowed = allowedIn Profile.Boxes }) (a .cells .now) (a .width) (a .lines) (a .table .now) (a .titles .now) (l .look .result) (l .look .last .1 .1 .1 .1 .1 .0) (l .look .last .1 .1 .1 .1 .1 .1 .0))
+    subst (λ (k : Marks). Answered (record { len = lenOf (a .measure); marks = k; allowed = allowedIn Profile.Boxes }) (a .cells .now) (a .width) (a .lines) (a .table .now) (a .titles .now) (l .look .result) (l .look .last .1 .1 .0) (l .look .last .1 .1 .1 .0))
     (m .marks-of .ensures) (l .look .ensures)
 
 pub look-as-spec : {M : Type 1} → statement M
 look-as-spec =
-    tie.close (tie.spec marks-of-requires cast-look cast-look-2 look-requires same-length same-length-2 returns)
+    tie.close (tie.spec marks-of-requires cast-wide cast-high look-requires same-length same-length-2 returns)

@@ -25,8 +25,9 @@ same-length c = search needs
 
 returns : tie.Need-returns
 returns c =
-    let t = c .before .before .before .before .start in
-    let a = c .before .before .before .before .before .before .before .before .before .before .args in
+    let at-start = c .before .before .before .before in
+    let t = at-start .start in
+    let a = at-start .before .before .before .before .before .before .args in
     stops (lookOf (a .measure) (a .profile)) (lawful-in (a .measure) (a .profile)) (a .picture .now) (a .canvas .now) (a .table .now) (a .titles .now) (t .last .1 .0) (t .result .answer) (t .result .lines) (t .result .width) (t .result .spaced) (t .ensures)
     (omega (arith, c .before .reading-number .ensures, c .if1 .taken))
 
@@ -38,22 +39,24 @@ same-length-2 c = search needs
 
 returns-2 : tie.Need-returns-2
 returns-2 c =
-    let n = c .before .before .before in
-    let t = n .before .before .before .start in
-    let a = n .before .before .before .before .before .before .before .before .before .args in
-    let h = passes (lookOf (a .measure) (a .profile)) (lawful-in (a .measure) (a .profile)) (a .picture .now) (a .canvas .now) (a .table .now) (a .titles .now) (t .last .1 .0) (t .result .answer) (t .result .lines) (t .result .width) (t .result .spaced) (t .ensures) (omega (arith, n .reading-number .ensures, c .before .before .if1 .left)) in
+    let at-reading-number = c .before .before .before in
+    let at-start = at-reading-number .before .before .before in
+    let t = at-start .start in
+    let a = at-start .before .before .before .before .before .before .args in
+    let h = passes (lookOf (a .measure) (a .profile)) (lawful-in (a .measure) (a .profile)) (a .picture .now) (a .canvas .now) (a .table .now) (a .titles .now) (t .last .1 .0) (t .result .answer) (t .result .lines) (t .result .width) (t .result .spaced) (t .ensures) (omega (arith, at-reading-number .reading-number .ensures, c .before .before .if1 .left)) in
     not-drawable (lookOf (a .measure) (a .profile)) (lawful-in (a .measure) (a .profile)) (a .picture .now) (a .canvas .now) (a .table .now) (a .titles .now) (t .last .1 .0) (t .result .answer) (t .result .lines) (t .result .width) (t .result .spaced) (t .ensures) h
     (kept-in (a .profile)) (end-in (a .profile)) (sym (c .before .drawable .ensures) ∙ not-true _ (c .if2 .taken))
 
 look-as-requires : tie.Need-look-as-requires
 look-as-requires c κs =
-    let e = c .before .before .before in
-    let d = e .before in
-    let n = d .before .before in
-    let t = n .before .before .before .start in
-    let a = n .before .before .before .before .before .before .before .before .before .args in
-    let h = passes (lookOf (a .measure) (a .profile)) (lawful-in (a .measure) (a .profile)) (a .picture .now) (a .canvas .now) (a .table .now) (a .titles .now) (t .last .1 .0) (t .result .answer) (t .result .lines) (t .result .width) (t .result .spaced) (t .ensures) (omega (arith, n .reading-number .ensures, d .before .if1 .left)) in
-    let u = sym (d .drawable .ensures) ∙ not-false _ (e .if2 .left) in
+    let at-if2 = c .before .before .before in
+    let at-drawable = at-if2 .before in
+    let at-reading-number = at-drawable .before .before in
+    let at-start = at-reading-number .before .before .before in
+    let t = at-start .start in
+    let a = at-start .before .before .before .before .before .before .args in
+    let h = passes (lookOf (a .measure) (a .profile)) (lawful-in (a .measure) (a .profile)) (a .picture .now) (a .canvas .now) (a .table .now) (a .titles .now) (t .last .1 .0) (t .result .answer) (t .result .lines) (t .result .width) (t .result .spaced) (t .ensures) (omega (arith, at-reading-number .reading-number .ensures, at-drawable .before .if1 .left)) in
+    let u = sym (at-drawable .drawable .ensures) ∙ not-false _ (at-if2 .if2 .left) in
     let w = both (not (t .result .spaced)) (ltb 0 (t .result .width)) (both (not (t .result .spaced) && ltb 0 (t .result .width)) (every (allowedIn (a .profile)) (a .picture .now)) u .0) .1 in
     picture-there (lookOf (a .measure) (a .profile)) (lawful-in (a .measure) (a .profile)) (a .picture .now) (a .canvas .now) (a .table .now) (a .titles .now) (t .last .1 .0) (t .result .answer) (t .result .lines) (t .result .width) (t .result .spaced) (t .ensures) h (ltb-true 0 (t .result .width) w)
 
@@ -68,15 +71,16 @@ same-length-5 c = search needs
 
 returns-3 : tie.Need-returns-3
 returns-3 c =
-    let l = c .before .before .before .before in
-    let e = l .before .before .before .before in
-    let d = e .before in
-    let n = d .before .before in
-    let t = n .before .before .before .start in
-    let a = n .before .before .before .before .before .before .before .before .before .args in
-    let h = passes (lookOf (a .measure) (a .profile)) (lawful-in (a .measure) (a .profile)) (a .picture .now) (a .canvas .now) (a .table .now) (a .titles .now) (t .last .1 .0) (t .result .answer) (t .result .lines) (t .result .width) (t .result .spaced) (t .ensures) (omega (arith, n .reading-number .ensures, d .before .if1 .left)) in
+    let at-look-as = c .before .before .before .before in
+    let at-if2 = at-look-as .before .before .before .before in
+    let at-drawable = at-if2 .before in
+    let at-reading-number = at-drawable .before .before in
+    let at-start = at-reading-number .before .before .before in
+    let t = at-start .start in
+    let a = at-start .before .before .before .before .before .before .args in
+    let h = passes (lookOf (a .measure) (a .profile)) (lawful-in (a .measure) (a .profile)) (a .picture .now) (a .canvas .now) (a .table .now) (a .titles .now) (t .last .1 .0) (t .result .answer) (t .result .lines) (t .result .width) (t .result .spaced) (t .ensures) (omega (arith, at-reading-number .reading-number .ensures, at-drawable .before .if1 .left)) in
     answered-so (lookOf (a .measure) (a .profile)) (lawful-in (a .measure) (a .profile)) (a .picture .now) (a .canvas .now) (a .table .now) (a .titles .now) (t .last .1 .0) (t .result .answer) (t .result .lines) (t .result .width) (t .result .spaced) (t .ensures) h
-    (l .look-as .result) (l .look-as .last .1 .1 .1 .1 .1 .0) (l .look-as .last .1 .1 .1 .1 .1 .1 .0) (kept-in (a .profile)) (end-in (a .profile)) (sym (d .drawable .ensures) ∙ not-false _ (e .if2 .left)) (l .look-as .ensures)
+    (at-look-as .look-as .result) (at-look-as .look-as .last .1 .1 .1 .1 .1 .0) (at-look-as .look-as .last .1 .1 .1 .1 .1 .1 .0) (kept-in (a .profile)) (end-in (a .profile)) (sym (at-drawable .drawable .ensures) ∙ not-false _ (at-if2 .if2 .left)) (at-look-as .look-as .ensures)
 
 pub read-as-spec : {M : Type 1} → statement M
 read-as-spec =

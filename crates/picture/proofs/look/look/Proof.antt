@@ -1,8 +1,6 @@
 -- What is seen of the outside is known, and the inside told by it.
-use native.Mathlib.Omega.{arith}
 use Rattle.rules.specs.Look.{marksIn}
-use Rattle.picture_sight.specs.Seen.{seen}
-use Rattle.picture.proofs.Looking.{rows-most, columns-most, rows-known, columns-known, rows-low, known}
+use Rattle.picture.proofs.Looking.{bands-ask, outside-known}
 use borrow.Author.Needs.{needs}
 use Rattle.picture.proofs.look.look.Statement.{statement}
 use Rattle.picture.proofs.look.look.Tie as tie
@@ -18,23 +16,23 @@ seen-columns-requires c κs = search needs
 
 bands-requires : tie.Need-bands-requires
 bands-requires c κs =
-    let s = c .before .before .before .before .before .before .before .before .before .before .before in
+    let at-margin = c .before .before .before .before .before .before .before in
+    let s = at-margin .before .before .before .before in
     let a = s .args in
-    let m = c .before .before .before .before .before .before .before .margin in
     let r = c .before .before .before .before .before .seen-rows in
     let k = c .before .before .before .seen-columns in
-    let g = seen (a .cells .now) (a .width) (a .height) in
-    ((s .pre .0 .fits, omega (arith, columns-known (a .cells .now) (a .width) (a .height) (s .pre .0) (m .result) (r .result) (k .result) (r .last .1 .1 .1 .1 .0) (k .last .1 .1 .1 .0) (m .ensures) (r .ensures .0) (r .ensures .1) (k .ensures .0) (k .ensures .1), columns-most g (a .width) (a .height)), omega (arith, rows-known (a .cells .now) (a .width) (a .height) (s .pre .0) (m .result) (r .result) (k .result) (r .last .1 .1 .1 .1 .0) (k .last .1 .1 .1 .0) (m .ensures) (r .ensures .0) (r .ensures .1) (k .ensures .0) (k .ensures .1), rows-most g (a .width) (a .height))), rows-low (a .cells .now) (a .width) (a .height) (s .pre .0) (m .result) (r .result) (k .result) (r .last .1 .1 .1 .1 .0) (k .last .1 .1 .1 .0) (m .ensures) (r .ensures .0) (r .ensures .1) (k .ensures .0) (k .ensures .1))
+    bands-ask (a .cells .now) (a .sight .width) (a .sight .height) (s .pre .0) (at-margin .margin .result) (r .result) (k .result) (r .last .1 .1 .1 .1 .0) (k .last .1 .1 .1 .0) (at-margin .margin .ensures) (r .ensures .0) (r .ensures .1) (k .ensures .0) (k .ensures .1)
 
 inside-requires : tie.Need-inside-requires
 inside-requires c κs =
-    let s = c .before .before .before .before .before .before .before .before .before .before .before .before .before .before .before .before .before in
+    let at-bands = c .before .before .before .before .before in
+    let at-seen-rows = at-bands .before .before .before .before .before .before in
+    let at-margin = at-seen-rows .before .before in
+    let s = at-margin .before .before .before .before in
     let a = s .args in
-    let m = c .before .before .before .before .before .before .before .before .before .before .before .before .before .margin in
-    let r = c .before .before .before .before .before .before .before .before .before .before .before .seen-rows in
-    let k = c .before .before .before .before .before .before .before .before .before .seen-columns in
-    let b = c .before .before .before .before .before .bands in
-    (s .pre, (known (a .cells .now) (a .width) (a .height) (s .pre .0) (m .result) (r .result) (k .result) (r .last .1 .1 .1 .1 .0) (k .last .1 .1 .1 .0) (m .ensures) (r .ensures .0) (r .ensures .1) (k .ensures .0) (k .ensures .1) (b .last .1 .1 .1 .1 .1 .1 .1 .0) (b .ensures) (marksIn (a .g)), columns-known (a .cells .now) (a .width) (a .height) (s .pre .0) (m .result) (r .result) (k .result) (r .last .1 .1 .1 .1 .0) (k .last .1 .1 .1 .0) (m .ensures) (r .ensures .0) (r .ensures .1) (k .ensures .0) (k .ensures .1), rows-known (a .cells .now) (a .width) (a .height) (s .pre .0) (m .result) (r .result) (k .result) (r .last .1 .1 .1 .1 .0) (k .last .1 .1 .1 .0) (m .ensures) (r .ensures .0) (r .ensures .1) (k .ensures .0) (k .ensures .1)))
+    let r = at-seen-rows .seen-rows in
+    let k = at-bands .before .before .before .before .seen-columns in
+    (s .pre, outside-known (a .cells .now) (a .sight .width) (a .sight .height) (s .pre .0) (at-margin .margin .result) (r .result) (k .result) (r .last .1 .1 .1 .1 .0) (k .last .1 .1 .1 .0) (at-margin .margin .ensures) (r .ensures .0) (r .ensures .1) (k .ensures .0) (k .ensures .1) (at-bands .bands .last .1 .1 .1 .1 .1 .1 .1 .0) (at-bands .bands .ensures) (marksIn (a .sight .marks)))
 
 same-length : tie.Need-same-length
 same-length c = search needs

@@ -1,6 +1,5 @@
 -- The plan is refused for one of three reasons, or accepted and delivered.
 use mathlib.Core.Path.{refl}
-use Rattle.rules.specs.Look.{Look}
 use Rattle.picture_sight.specs.Plan.{planSeen}
 use Rattle.rules.proofs.Kept.{every-byte}
 use Rattle.text.proofs.Counted.{len-most}
@@ -20,27 +19,28 @@ bad-depth-requires : tie.Need-bad-depth-requires
 bad-depth-requires c κs =
     let s = c .before .before .before .before .before in
     let a = s .args in
-    counts (lookIn (a .measure) (a .g)) (len-most (a .measure)) (s .pre .0 .0) (s .pre .1)
+    counts (lookIn (a .sight .measure) (a .sight .marks)) (len-most (a .sight .measure)) (s .pre .0 .0) (s .pre .1)
 
 returns-2 : tie.Need-returns-2
 returns-2 c =
     let s = c .before .before .before .before .before .before .before in
     let a = s .args in
     let d = c .before .bad-depth in
-    refused (wrong-depth (depths-wrong (lookIn (a .measure) (a .g)) (len-most (a .measure)) (s .pre .0 .0) (s .pre .1) (d .result) (d .ensures) (c .if2 .taken))) refl refl refl
+    refused (wrong-depth (depths-wrong (lookIn (a .sight .measure) (a .sight .marks)) (len-most (a .sight .measure)) (s .pre .0 .0) (s .pre .1) (d .result) (d .ensures) (c .if2 .taken))) refl refl refl
 
 same-requires : tie.Need-same-requires
 same-requires c κs =
     let s = c .before .before .before .before .before .before .before in
     let a = s .args in
     let d = c .before .bad-depth in
-    given (lookIn (a .measure) (a .g)) (len-most (a .measure)) (s .pre .0 .0) (s .pre .1) (omega (arith, c .before .before .if1 .left)) (depths-right (lookIn (a .measure) (a .g)) (len-most (a .measure)) (s .pre .0 .0) (s .pre .1) (d .result) (d .ensures) (c .if2 .left)) (s .pre .0 .1)
+    given (lookIn (a .sight .measure) (a .sight .marks)) (len-most (a .sight .measure)) (s .pre .0 .0) (s .pre .1) (omega (arith, c .before .before .if1 .left)) (depths-right (lookIn (a .sight .measure) (a .sight .marks)) (len-most (a .sight .measure)) (s .pre .0 .0) (s .pre .1) (d .result) (d .ensures) (c .if2 .left)) (s .pre .0 .1)
 
 deliver-requires : tie.Need-deliver-requires
 deliver-requires c κs =
-    let s = c .before .before .before .before .before .before .before .before .before .before .before in
+    let at-same = c .before .before .before in
+    let s = at-same .before .before .before .before .before .before .before .before in
     let a = s .args in
-    (s .pre .0 .0 .fits, (small-marks (lookIn (a .measure) (a .g)) (len-most (a .measure)) (s .pre .0 .0) (s .pre .1), (standing (lookIn (a .measure) (a .g)) (len-most (a .measure)) (s .pre .0 .0) (s .pre .1), bytes-are (lookIn (a .measure) (a .g)) (len-most (a .measure)) (s .pre .0 .0) (s .pre .1))))
+    (s .pre .0 .0 .fits, (small-marks (lookIn (a .sight .measure) (a .sight .marks)) (len-most (a .sight .measure)) (s .pre .0 .0) (s .pre .1), (standing (lookIn (a .sight .measure) (a .sight .marks)) (len-most (a .sight .measure)) (s .pre .0 .0) (s .pre .1), bytes-are (lookIn (a .sight .measure) (a .sight .marks)) (len-most (a .sight .measure)) (s .pre .0 .0) (s .pre .1))))
 
 same-length : tie.Need-same-length
 same-length c = search needs
@@ -50,13 +50,15 @@ same-length-2 c = search needs
 
 returns-3 : tie.Need-returns-3
 returns-3 c =
-    let s = c .before .before .before .before .before .before .before .before .before .before .before .before .before .before .before .before in
+    let at-deliver = c .before .before .before .before in
+    let at-same = at-deliver .before .before .before .before in
+    let at-bad-depth = at-same .before .before in
+    let s = at-bad-depth .before .before .before .before .before .before in
     let a = s .args in
-    let d = c .before .before .before .before .before .before .before .before .before .before .bad-depth in
-    let q = c .before .before .before .before .before .before .before .before .same .ensures .0 (c .before .before .before .before .before .before .before .if3 .taken) in
+    let d = at-bad-depth .bad-depth in
     accepted
-    (accept (lookIn (a .measure) (a .g)) (len-most (a .measure)) (s .pre .0 .0) (s .pre .1) (omega (arith, c .before .before .before .before .before .before .before .before .before .before .before .if1 .left)) (depths-right (lookIn (a .measure) (a .g)) (len-most (a .measure)) (s .pre .0 .0) (s .pre .1) (d .result) (d .ensures) (c .before .before .before .before .before .before .before .before .before .if2 .left)) every-byte q)
-    (c .before .before .before .before .deliver .ensures (planSeen (lookIn (a .measure) (a .g) .marks) (a .cells .now) (a .width) (a .height)) (told (lookIn (a .measure) (a .g)) (len-most (a .measure)) (s .pre .0 .0) (s .pre .1)))
+    (accept (lookIn (a .sight .measure) (a .sight .marks)) (len-most (a .sight .measure)) (s .pre .0 .0) (s .pre .1) (omega (arith, at-bad-depth .before .if1 .left)) (depths-right (lookIn (a .sight .measure) (a .sight .marks)) (len-most (a .sight .measure)) (s .pre .0 .0) (s .pre .1) (d .result) (d .ensures) (at-same .before .if2 .left)) every-byte (at-same .same .ensures .0 (at-deliver .before .before .before .if3 .taken)))
+    (at-deliver .deliver .ensures (planSeen (lookIn (a .sight .measure) (a .sight .marks) .marks) (a .cells .now) (a .sight .width) (a .sight .height)) (told (lookIn (a .sight .measure) (a .sight .marks)) (len-most (a .sight .measure)) (s .pre .0 .0) (s .pre .1)))
 
 returns-4 : tie.Need-returns-4
 returns-4 c = refused (other (c .before .same .ensures .1 (c .if3 .left))) refl refl refl

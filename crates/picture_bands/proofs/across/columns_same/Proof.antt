@@ -2,11 +2,11 @@
 -- A column that does not agree answers for all.
 use mathlib.Core.Path.{sym, _∙_, _≡_, refl}
 use mathlib.Core.Bool.{true}
-use Prim.Native.Nat.{_<_, _≤_, _-_}
+use Prim.Native.Nat.{_≤_, _-_}
 use native.Mathlib.Omega.{arith}
 use Rattle.rules.specs.Look.{marksIn}
 use Rattle.picture_bands.specs.Strip.{stripsSame}
-use Rattle.row_strips.specs.Row.{rowBy, seenTo}
+use Rattle.row_strips.specs.Row.{seenTo, rowWith}
 use Rattle.row_strips.proofs.Entries.{seen-step}
 use Rattle.picture_bands.proofs.Strips.{fits-spot, strip-is, strips-none, strips-more, strips-not}
 use borrow.Author.Needs.{needs}
@@ -14,12 +14,12 @@ use Rattle.picture_bands.proofs.across.columns_same.Statement.{statemen
 use Rattle.picture_bands.proofs.across.columns_same.Tie as tie
 
 abbrev Inv-loop : tie.InvT-loop
-Inv-loop cells width g above here next on top end bend middle lines longest cx xs ncols n seen₀ over₀ j₀ seen over j =
+Inv-loop cells sight at ncols above here next on lines longest cx xs n seen₀ over₀ j₀ seen over j =
     (j ≤ ncols) × (seen ≡ seenTo here j) × (over ≡ seenTo above j)
-    × (stripsSame (marksIn g) cells width (rowBy above here next on top end bend middle) lines longest cx xs ncols j ≡ true)
+    × (stripsSame (marksIn (sight .marks)) cells (sight .width) (rowWith above here next on at) lines longest cx xs ncols j ≡ true)
 
 abbrev μ-loop : tie.MeasureT-loop
-μ-loop cells width g above here next on top end bend middle lines longest cx xs ncols n seen₀ over₀ j₀ seen over j = ncols - j
+μ-loop cells sight at ncols above here next on lines longest cx xs n seen₀ over₀ j₀ seen over j = ncols - j
 
 wide-requires : tie.Need-wide-requires Inv-loop μ-loop
 wide-requires c κs = search needs
@@ -28,7 +28,7 @@ loop-holds : tie.Need-loop-holds Inv-loop μ-loop
 unfolding seenTo
 loop-holds c =
     let s = c .before .before .args in
-    (search needs, refl, refl, strips-none (marksIn (s .g)) (s .cells .now) (s .width) (rowBy (s .above .now) (s .here .now) (s .next .now) (s .on .now) (s .top) (s .end) (s .bend) (s .middle)) (s .lines .now) (s .longest .now) (s .cx .now) (s .xs .now) (s .ncols))
+    (search needs, refl, refl, strips-none (marksIn (s .sight .marks)) (s .cells .now) (s .sight .width) (rowWith (s .above .now) (s .here .now) (s .next .now) (s .on .now) (s .at)) (s .lines .now) (s .longest .now) (s .cx .now) (s .xs .now) (s .ncols))
 
 mul-k : tie.Need-mul-k Inv-loop μ-loop
 mul-k c = search needs
@@ -57,23 +57,17 @@ mul-onward c = search needs
 element-copy-out-onward : tie.Need-element-copy-out-onward Inv-loop μ-loop
 element-copy-out-onward c = search needs
 
-mul-spot-of : tie.Need-mul-spot-of Inv-loop μ-loop
-mul-spot-of c = search needs
+mul-spot-at : tie.Need-mul-spot-at Inv-loop μ-loop
+mul-spot-at c = search needs
 
-element-copy-out-spot-of : tie.Need-element-copy-out-spot-of Inv-loop μ-loop
-element-copy-out-spot-of c = search needs
+element-copy-out-spot-at : tie.Need-element-copy-out-spot-at Inv-loop μ-loop
+element-copy-out-spot-at c = search needs
 
-size-of-requires : tie.Need-size-of-requires Inv-loop μ-loop
-size-of-requires c κs = let s = c .before .before .before .before .before .before .before .before .before in s .pre .1 (c .before .before .before .before .before .before .loop .j) (omega arith) .node
-
-size-of-requires-2 : tie.Need-size-of-requires-2 Inv-loop μ-loop
-size-of-requires-2 c κs = let s = c .before .before .before .before .before .before .before .before .before .before in s .pre .1 (c .before .before .before .before .before .before .before .loop .j) (omega arith) .node
-
-spot-of-requires : tie.Need-spot-of-requires Inv-loop μ-loop
-spot-of-requires c κs =
-    let s = c .before .before .before .before .before .before .before .before .before .before .before in
-    let q = s .pre .1 (c .before .before .before .before .before .before .before .before .loop .j) (omega arith) .room in
-    rw (c .size-of2 .ensures, c .before .size-of .ensures) ((omega (arith, q .left-room), q .wide-fits), (q .top-room, q .high-fits))
+spot-at-requires : tie.Need-spot-at-requires Inv-loop μ-loop
+spot-at-requires c κs =
+    let at-loop = c .before .before .before .before .before .before in
+    let q = at-loop .before .before .before .pre .1 (at-loop .loop .j) (omega arith) in
+    (q .node, ((omega (arith, q .room .left-room), q .room .wide-fits), (q .room .top-room, q .room .high-fits)))
 
 column-end-requires : tie.Need-column-end-requires Inv-loop μ-loop
 column-end-requires c κs = search needs
@@ -86,14 +80,14 @@ element-copy-out-block-same c = search needs
 
 block-same-requires : tie.Need-block-same-requires Inv-loop μ-loop
 block-same-requires c κs =
-    let s = c .before .before .before .before .before .before .before .before .before .before .before .before .before .before in
-    let r = rowBy (s .args .above .now) (s .args .here .now) (s .args .next .now) (s .args .on .now) (s .args .top) (s .args .end) (s .args .bend) (s .args .middle) in
-    let l = c .before .before .before .before .before .before .before .before .before .before .before .loop in
-    let h : l .j < s .args .ncols = omega (arith, c .before .before .before .before .before .before .before .before .before .before .loop-test, c .before .before .before .before .before .before .before .before .before .before .before .before .wide .ensures) in
-    let e = rw (c .before .before .before .before .size-of .ensures, c .before .before .before .size-of2 .ensures) at (c .before .before .spot-of .ensures) in
-    let q = s .pre .1 (l .j) h .room in
+    let at-spot-at = c .before .before in
+    let at-loop-test = at-spot-at .before .before .before .before .before .before in
+    let at-wide = at-loop-test .before .before in
+    let s = at-wide .before .before in
+    let r = rowWith (s .args .above .now) (s .args .here .now) (s .args .next .now) (s .args .on .now) (s .args .at) in
+    let q = s .pre .1 (at-loop-test .before .loop .j) (rw (at-wide .wide .ensures) at (at-loop-test .loop-test .taken)) .room in
     rw (c .before .column-end .ensures)
-    (q .on-canvas, s .pre .0 .0, fits-spot (c .before .before .spot-of .result) (s .args .width) r _ _ _ _ _ _ _ _ _ e q (s .pre .0 .1))
+    (q .on-canvas, s .pre .0 .0, fits-spot (at-spot-at .spot-at .result) (s .args .sight .width) r _ _ _ _ _ _ _ _ _ (at-spot-at .spot-at .ensures) q (s .pre .0 .1))
 
 add-j : tie.Need-add-j Inv-loop μ-loop
 add-j c = search needs
@@ -103,31 +97,35 @@ loop-less c = search needs
 
 loop-again : tie.Need-loop-again Inv-loop μ-loop
 loop-again c =
-    let s = c .before .before .before .before .before .before .before .before .before .before .before .before .before .before .before .before in
-    let r = rowBy (s .args .above .now) (s .args .here .now) (s .args .next .now) (s .args .on .now) (s .args .top) (s .args .end) (s .args .bend) (s .args .middle) in
-    let l = c .before .before .before .before .before .before .before .before .before .before .before .before .before .loop in
-    let h : l .j < s .args .ncols = omega (arith, c .before .before .before .before .before .before .before .before .before .before .before .before .loop-test, c .before .before .before .before .before .before .before .before .before .before .before .before .before .before .wide .ensures) in
+    let at-spot-at = c .before .before .before .before in
+    let at-loop-test = at-spot-at .before .before .before .before .before .before in
+    let l = at-loop-test .before .loop in
+    let at-wide = at-loop-test .before .before in
+    let a = at-wide .before .before .args in
+    let r = rowWith (a .above .now) (a .here .now) (a .next .now) (a .on .now) (a .at) in
     let w =
-    strip-is (marksIn (s .args .g)) (s .args .cells .now) (s .args .width) r (s .args .lines .now) (s .args .longest .now) (s .args .cx .now) (s .args .xs .now) (s .args .ncols) (l .j) _ _ _ (c .before .before .before .before .spot-of .result) (l .seen) (l .over) _ (l .inv .1) (l .inv .2)
-    (c .before .before .before .before .before .before .size-of .ensures) (c .before .before .before .before .before .size-of2 .ensures) (c .before .before .before .before .spot-of .ensures) (c .before .before .before .column-end .ensures) (c .before .block-same .ensures)
+    strip-is (marksIn (a .sight .marks)) (a .cells .now) (a .sight .width) r (a .lines .now) (a .longest .now) (a .cx .now) (a .xs .now) (a .ncols) (l .j) _ (at-spot-at .spot-at .result) (l .seen) (l .over) _ (l .inv .1) (l .inv .2)
+    (at-spot-at .spot-at .ensures) (c .before .before .before .column-end .ensures) (c .before .block-same .ensures)
     in (
-      omega arith,
-      seen-step (s .args .here .now) (l .j) (l .seen) (l .inv .1),
-      seen-step (s .args .above .now) (l .j) (l .over) (l .inv .2),
-      strips-more (marksIn (s .args .g)) (s .args .cells .now) (s .args .width) r (s .args .lines .now) (s .args .longest .now) (s .args .cx .now) (s .args .xs .now) (s .args .ncols) (l .j) (l .inv .3) (sym (c .if1 .taken) ∙ w),
+      omega (arith, at-loop-test .loop-test .taken, at-wide .wide .ensures),
+      seen-step (a .here .now) (l .j) (l .seen) (l .inv .1),
+      seen-step (a .above .now) (l .j) (l .over) (l .inv .2),
+      strips-more (marksIn (a .sight .marks)) (a .cells .now) (a .sight .width) r (a .lines .now) (a .longest .now) (a .cx .now) (a .xs .now) (a .ncols) (l .j) (l .inv .3) (sym (c .if1 .taken) ∙ w),
     )
 
 returns : tie.Need-returns Inv-loop μ-loop
 returns c =
-    let s = c .before .before .before .before .before .before .before .before .before .before .before .before .before .before .before .before in
-    let r = rowBy (s .args .above .now) (s .args .here .now) (s .args .next .now) (s .args .on .now) (s .args .top) (s .args .end) (s .args .bend) (s .args .middle) in
-    let l = c .before .before .before .before .before .before .before .before .before .before .before .before .before .loop in
-    let h : l .j < s .args .ncols = omega (arith, c .before .before .before .before .before .before .before .before .before .before .before .before .loop-test, c .before .before .before .before .before .before .before .before .before .before .before .before .before .before .wide .ensures) in
+    let at-spot-at = c .before .before .before .before in
+    let at-loop-test = at-spot-at .before .before .before .before .before .before in
+    let l = at-loop-test .before .loop in
+    let at-wide = at-loop-test .before .before in
+    let a = at-wide .before .before .args in
+    let r = rowWith (a .above .now) (a .here .now) (a .next .now) (a .on .now) (a .at) in
     let w =
-    strip-is (marksIn (s .args .g)) (s .args .cells .now) (s .args .width) r (s .args .lines .now) (s .args .longest .now) (s .args .cx .now) (s .args .xs .now) (s .args .ncols) (l .j) _ _ _ (c .before .before .before .before .spot-of .result) (l .seen) (l .over) _ (l .inv .1) (l .inv .2)
-    (c .before .before .before .before .before .before .size-of .ensures) (c .before .before .before .before .before .size-of2 .ensures) (c .before .before .before .before .spot-of .ensures) (c .before .before .before .column-end .ensures) (c .before .block-same .ensures)
+    strip-is (marksIn (a .sight .marks)) (a .cells .now) (a .sight .width) r (a .lines .now) (a .longest .now) (a .cx .now) (a .xs .now) (a .ncols) (l .j) _ (at-spot-at .spot-at .result) (l .seen) (l .over) _ (l .inv .1) (l .inv .2)
+    (at-spot-at .spot-at .ensures) (c .before .before .before .column-end .ensures) (c .before .block-same .ensures)
     in
-    strips-not (marksIn (s .args .g)) (s .args .cells .now) (s .args .width) r (s .args .lines .now) (s .args .longest .now) (s .args .cx .now) (s .args .xs .now) (s .args .ncols) (l .j) (s .args .ncols) h (sym (c .if1 .left) ∙ w)
+    strips-not (marksIn (a .sight .marks)) (a .cells .now) (a .sight .width) r (a .lines .now) (a .longest .now) (a .cx .now) (a .xs .now) (a .ncols) (l .j) (a .ncols) (rw (at-wide .wide .ensures) at (at-loop-test .loop-test .taken)) (sym (c .if1 .left) ∙ w)
 
 returns-2 : tie.Need-returns-2 Inv-loop μ-loop
 returns-2 c =
@@ -153,11 +151,9 @@ columns-same-spec =
     element-copy-out-child
     mul-onward
     element-copy-out-onward
-    mul-spot-of
-    element-copy-out-spot-of
-    size-of-requires
-    size-of-requires-2
-    spot-of-requires
+    mul-spot-at
+    element-copy-out-spot-at
+    spot-at-requires
     column-end-requires
     mul-block-same
     element-copy-out-block-same

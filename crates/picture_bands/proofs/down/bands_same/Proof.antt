@@ -1,7 +1,7 @@
 -- The rows before i agree, and the arrays hold the nodes of the row above row i and of row i; a row that does not agree answers for all.
 use mathlib.Core.Bool.{true}
 use mathlib.Core.Path.{_≡_, refl, ap, sym, _∙_}
-use Prim.Native.Nat.{ℕ, _+_, _-_, _≤_, _<_}
+use Prim.Native.Nat.{ℕ, _+_, _-_, _≤_}
 use native.Mathlib.Omega.{arith}
 use lib.ListN.{length}
 use Rattle.rules.specs.Look.{lenOf, marksIn}
@@ -15,68 +15,107 @@ use Rattle.row_strips.specs.Row.{cellsIn}
 use Rattle.row_strips.specs.Parts.{rowFrom}
 use Rattle.row_strips.proofs.Entries.{cells-none}
 use Rattle.row_strips.proofs.Made.{made}
-use Rattle.picture_bands.proofs.Agree.{rows-none, rows-more, rows-all, rows-not}
+use Rattle.picture_bands.proofs.Agree.{rows-none, columns-ask, row-agrees, row-differs, rows-all}
 use borrow.Author.Needs.{needs}
 use Rattle.picture_bands.proofs.down.bands_same.Statement.{statement}
 use Rattle.picture_bands.proofs.down.bands_same.Tie as tie
 
 abbrev Inv-loop : tie.InvT-loop
-Inv-loop cells width height measure g table nodes column lines longest cx xs ncols cy ys nrows above₀ here₀ next₀ on₀ i₀ above here next on i =
-    (i ≤ nrows) × (above ≡ cellsIn table column lines i nodes) × (here ≡ cellsIn table column lines (i + 1) nodes) × (length on ≡ 256)
-    × (alikeIn (seen cells width height) (markAt (lenOf measure) (marksIn g) (view (planSeen (marksIn g) cells width height))) (d (view (planSeen (marksIn g) cells width height)) + 4) width 3 (rowFrom (view (planSeen (marksIn g) cells width height)) i) ≡ true)
+Inv-loop cells sight n table column lines longest cx xs ys above₀ here₀ next₀ on₀ i₀ above here next on i =
+    (i ≤ n .nrows) × (above ≡ cellsIn table column lines i (n .nodes)) × (here ≡ cellsIn table column lines (i + 1) (n .nodes)) × (length on ≡ 256)
+    × (alikeIn (seen cells (sight .width) (sight .height)) (markAt (lenOf (sight .measure)) (marksIn (sight .marks)) (view (planSeen (marksIn (sight .marks)) cells (sight .width) (sight .height))))
+    (d (view (planSeen (marksIn (sight .marks)) cells (sight .width) (sight .height))) + 4) (sight .width) 3 (rowFrom (view (planSeen (marksIn (sight .marks)) cells (sight .width) (sight .height))) i) ≡ true)
 
 abbrev μ-loop : tie.MeasureT-loop
-μ-loop cells width height measure g table nodes column lines longest cx xs ncols cy ys nrows above₀ here₀ next₀ on₀ i₀ above here next on i =
-    nrows - i
+μ-loop cells sight n table column lines longest cx xs ys above₀ here₀ next₀ on₀ i₀ above here next on i =
+    n .nrows - i
 
 row-cells-requires : tie.Need-row-cells-requires Inv-loop μ-loop
 row-cells-requires c κs =
-    let s = c .before .before .before in
-    let m = made (s .pre .1 .known) in
-    ((s .pre .1 .known .room, m .nodes-few), m .keys)
+    let q = c .before .before .before .pre .1 .known in
+    ((q .room, made q .nodes-few), made q .keys)
 
 loop-holds : tie.Need-loop-holds Inv-loop μ-loop
 loop-holds c =
     let s = c .before .before .before .before in
-    (search needs, cells-none (s .args .table .now) (s .args .column .now) (s .args .lines .now) (s .args .nodes), c .row-cells .ensures, refl, rows-none (s .args .cells .now) (s .pre .1))
+    (search needs, cells-none (s .args .table .now) (s .args .column .now) (s .args .lines .now) (s .args .n .nodes), c .row-cells .ensures, refl, rows-none (s .args .cells .now) (s .pre .1))
 
-band-same-requires : tie.Need-band-same-requires Inv-loop μ-loop
-band-same-requires c κs =
-    let s = c .before .before .before .before .before .before .before .before .before .before in
-    let l = c .before .before .before .before .before .loop in
-    ((s .pre .0, omega arith, l .inv .3), ((l .inv .1, l .inv .2), s .pre .1))
+add-row-cells : tie.Need-add-row-cells Inv-loop μ-loop
+add-row-cells c =
+    let at-loop = c .before .before in
+    let s = at-loop .before .before .before .before .before in
+    record { fits = omega (arith, made (s .pre .1 .known) .rows-few) }
+
+row-cells-requires-2 : tie.Need-row-cells-requires-2 Inv-loop μ-loop
+row-cells-requires-2 c κs =
+    let q = c .before .before .before .before .before .before .before .before .pre .1 .known in
+    ((q .room, made q .nodes-few), made q .keys)
+
+onward-requires : tie.Need-onward-requires Inv-loop μ-loop
+onward-requires c κs =
+    let at-loop = c .before .before .before .before .before .before .before in
+    let m = made (at-loop .before .before .before .before .before .pre .1 .known) in
+    (m .columns-some, m .columns-few, at-loop .loop .inv .3)
+
+band-of-requires : tie.Need-band-of-requires Inv-loop μ-loop
+band-of-requires c κs =
+    let at-if1 = c .before .before .before .before .before .before in
+    let at-loop = at-if1 .before .before in
+    let s = at-loop .before .before .before .before .before in
+    made (s .pre .1 .known) .bands (at-loop .loop .i) (at-if1 .if1 .taken)
+
+columns-same-requires : tie.Need-columns-same-requires Inv-loop μ-loop
+columns-same-requires c κs =
+    let at-band-of = c .before .before .before .before in
+    let at-onward = at-band-of .before in
+    let at-row-cells = at-onward .before .before .before .before in
+    let at-if1 = at-row-cells .before .before in
+    let l = at-if1 .before .before .loop in
+    let s = at-if1 .before .before .before .before .before .before .before in
+    columns-ask (s .args .cells .now) (s .pre .1) (l .i) (at-if1 .if1 .taken) (l .above) (l .here) (at-row-cells .row-cells2 .last .1 .1 .1 .1 .1 .0) (at-onward .onward .last .1 .1 .1 .0) (at-band-of .band-of .result) (l .inv .1) (l .inv .2) (at-row-cells .row-cells2 .ensures) (at-onward .onward .ensures .1) (at-band-of .band-of .ensures) (s .pre .0)
 
 add-i : tie.Need-add-i Inv-loop μ-loop
-add-i c = search needs
+add-i c =
+    let at-onward = c .before .before .before .before .before .before .before in
+    let at-if1 = at-onward .before .before .before .before .before .before in
+    let s = at-if1 .before .before .before .before .before .before .before in
+    record { fits = omega (arith, at-if1 .if1 .taken, made (s .pre .1 .known) .rows-few) }
 
 loop-less : tie.Need-loop-less Inv-loop μ-loop
 loop-less c = search needs
 
 loop-again : tie.Need-loop-again Inv-loop μ-loop
 loop-again c =
-    let s = c .before .before .before .before .before .before .before .before .before .before .before .before in
-    let l = c .before .before .before .before .before .before .before .loop in
-    let q = s .pre .1 in
-    let hi : l .i < view (planSeen (marksIn (s .args .g)) (s .args .cells .now) (s .args .width) (s .args .height)) .rows = omega (arith, q .known .numbers .rows-are, c .before .before .before .before .before .before .loop-test .taken) in
-    let t = c .before .band-same .ensures in
-    let z : l .i + 2 ≡ l .i + 1 + 1 = omega arith in
-    (search needs, l .inv .2, t .1 .0 ∙ ap (λ (k : ℕ). cellsIn (s .args .table .now) (s .args .column .now) (s .args .lines .now) k (s .args .nodes)) z, t .1 .1, rows-more (s .args .cells .now) q (l .i) hi (l .inv .4) (sym (c .if1 .taken) ∙ t .0))
+    let at-band-of = c .before .before .before .before .before .before in
+    let at-onward = at-band-of .before in
+    let at-row-cells = at-onward .before .before .before .before in
+    let at-if1 = at-row-cells .before .before in
+    let l = at-if1 .before .before .loop in
+    let s = at-if1 .before .before .before .before .before .before .before in
+    let z : l .i + 2 ≡ l .i + 1 + 1 = omega arith in (
+      search needs,
+      l .inv .2,
+      at-row-cells .row-cells2 .ensures ∙ ap (λ (k : ℕ). cellsIn (s .args .table .now) (s .args .column .now) (s .args .lines .now) k (s .args .n .nodes)) z,
+      at-onward .onward .ensures .0,
+      row-agrees (s .args .cells .now) (s .pre .1) (l .i) (at-if1 .if1 .taken) (l .above) (l .here) (at-row-cells .row-cells2 .last .1 .1 .1 .1 .1 .0) (at-onward .onward .last .1 .1 .1 .0) (at-band-of .band-of .result) (l .inv .1) (l .inv .2) (at-row-cells .row-cells2 .ensures) (at-onward .onward .ensures .1) (at-band-of .band-of .ensures) (c .before .columns-same .result) (c .before .columns-same .ensures) (c .if2 .taken) (l .inv .4),
+    )
 
 returns : tie.Need-returns Inv-loop μ-loop
 returns c =
-    let s = c .before .before .before .before .before .before .before .before .before .before .before .before in
-    let l = c .before .before .before .before .before .before .before .loop in
-    let q = s .pre .1 in
-    let hi : l .i < view (planSeen (marksIn (s .args .g)) (s .args .cells .now) (s .args .width) (s .args .height)) .rows = omega (arith, q .known .numbers .rows-are, c .before .before .before .before .before .before .loop-test .taken) in
-    rows-not (s .args .cells .now) q (l .i) hi (sym (c .if1 .left) ∙ c .before .band-same .ensures .0)
+    let at-band-of = c .before .before .before .before .before .before in
+    let at-onward = at-band-of .before in
+    let at-row-cells = at-onward .before .before .before .before in
+    let at-if1 = at-row-cells .before .before in
+    let l = at-if1 .before .before .loop in
+    let s = at-if1 .before .before .before .before .before .before .before in
+    row-differs (s .args .cells .now) (s .pre .1) (l .i) (at-if1 .if1 .taken) (l .above) (l .here) (at-row-cells .row-cells2 .last .1 .1 .1 .1 .1 .0) (at-onward .onward .last .1 .1 .1 .0) (at-band-of .band-of .result) (l .inv .1) (l .inv .2) (at-row-cells .row-cells2 .ensures) (at-onward .onward .ensures .1) (at-band-of .band-of .ensures) (c .before .columns-same .result) (c .before .columns-same .ensures) (c .if2 .left)
 
 returns-2 : tie.Need-returns-2 Inv-loop μ-loop
 returns-2 c =
-    let s = c .before .before .before .before .before .before in
-    let l = c .before .loop in
-    let q = s .pre .1 in
-    let e = rows-all (s .args .cells .now) q (l .i) (omega (arith, q .known .numbers .rows-are)) in
-    sym (rw e at (l .inv .4))
+    let at-loop = c .before .before in
+    let s = at-loop .before .before .before .before .before in
+    let e = rows-all (s .args .cells .now) (s .pre .1) (at-loop .loop .i) (omega (arith, s .pre .1 .known .numbers .rows-are)) in
+    sym (rw e at (at-loop .loop .inv .4))
 
 pub bands-same-spec : {M : Type 1} → statement M
 bands-same-spec =
@@ -86,7 +125,11 @@ bands-same-spec =
     μ-loop
     row-cells-requires
     loop-holds
-    band-same-requires
+    add-row-cells
+    row-cells-requires-2
+    onward-requires
+    band-of-requires
+    columns-same-requires
     add-i
     loop-less
     loop-again

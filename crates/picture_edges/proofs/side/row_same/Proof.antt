@@ -39,26 +39,31 @@ wide-requires-5 c κs = search needs
 
 beside-same-requires : tie.Need-beside-same-requires
 beside-same-requires c κs =
-    let s = c .before .before .before .before .before .before .before .before .before in
+    let at-wide3 = c .before .before .before in
+    let at-wide2 = at-wide3 .before .before in
+    let at-wide = at-wide2 .before .before in
+    let s = at-wide .before .before in
     let g = s .args in
     let r = s .pre .3 in
-    let k = c .before .before .before .before .before .before .before .wide .ensures in
-    let top = c .before .before .before .wide3 .ensures ∙ ap (λ (q : ℕ). getD (g .ys .now) q 0) k in
-    let mid = c .before .before .before .before .before .wide2 .ensures ∙ ap (λ (q : ℕ). getD (g .cy .now) q 0) k in
+    let k = at-wide .wide .ensures in
+    let top = at-wide3 .wide3 .ensures ∙ ap (λ (q : ℕ). getD (g .ys .now) q 0) k in
+    let mid = at-wide2 .wide2 .ensures ∙ ap (λ (q : ℕ). getD (g .cy .now) q 0) k in
     let end = c .before .wide4 .ensures ∙ c .before .before .row-end .ensures in
     rw (c .wide5 .ensures, top, mid, end)
     (r .small, r .short, r .narrow, r .from-top, r .to-end, rows-fit (g .width) (g .height) _ _ (s .pre .0) (r .within))
 
 returns : tie.Need-returns
 returns c =
-    let w = c .before in
-    let s = w .before .before .before .before .before .before .before .before .before in
-    let g = s .args in
-    let k = w .before .before .before .before .before .before .before .wide .ensures in
-    let top = w .before .before .before .wide3 .ensures ∙ ap (λ (q : ℕ). getD (g .ys .now) q 0) k in
-    let mid = w .before .before .before .before .before .wide2 .ensures ∙ ap (λ (q : ℕ). getD (g .cy .now) q 0) k in
-    let end = w .before .wide4 .ensures ∙ w .before .before .row-end .ensures in
-    rw (w .wide5 .ensures, top, mid, end) at (c .beside-same .ensures)
+    let at-wide4 = c .before .before in
+    let at-wide3 = at-wide4 .before .before in
+    let at-wide2 = at-wide3 .before .before in
+    let at-wide = at-wide2 .before .before in
+    let g = at-wide .before .before .args in
+    let k = at-wide .wide .ensures in
+    let top = at-wide3 .wide3 .ensures ∙ ap (λ (q : ℕ). getD (g .ys .now) q 0) k in
+    let mid = at-wide2 .wide2 .ensures ∙ ap (λ (q : ℕ). getD (g .cy .now) q 0) k in
+    let end = at-wide4 .wide4 .ensures ∙ at-wide4 .before .row-end .ensures in
+    rw (c .before .wide5 .ensures, top, mid, end) at (c .beside-same .ensures)
 
 pub row-same-spec : {M : Type 1} → statement M
 row-same-spec =

@@ -20,8 +20,9 @@ shared-slice-read-if1 c = search needs
 
 returns : tie.Need-returns
 returns c =
-    let a = c .before .before .before .before .args in
-    sym (text-cells (a .cells .now) (a .base) (a .p) (c .before .before .before .before .pre .0) (a .side)
+    let s = c .before .before .before .before in
+    let a = s .args in
+    sym (text-cells (a .cells .now) (a .base) (a .p) (s .pre .0) (a .side)
     ∙ rw (ne-eqb _ _ (c .if1 .taken)))
 
 add-if2 : tie.Need-add-if2
@@ -35,9 +36,11 @@ shared-slice-read-if2 c = search needs
 
 returns-2 : tie.Need-returns-2
 returns-2 c =
-    let a = c .before .before .before .before .before .before .args in
-    sym (text-cells (a .cells .now) (a .base) (a .p) (c .before .before .before .before .before .before .pre .0) (a .side)
-    ∙ rw (eq-eqb _ _ (c .before .before .if1 .left), ne-eqb _ _ (c .if2 .taken)))
+    let at-if1 = c .before .before in
+    let s = at-if1 .before .before .before .before in
+    let a = s .args in
+    sym (text-cells (a .cells .now) (a .base) (a .p) (s .pre .0) (a .side)
+    ∙ rw (eq-eqb _ _ (at-if1 .if1 .left), ne-eqb _ _ (c .if2 .taken)))
 
 sub-if3 : tie.Need-sub-if3
 sub-if3 c = search needs
@@ -50,9 +53,12 @@ shared-slice-read-if3 c = search needs
 
 returns-3 : tie.Need-returns-3
 returns-3 c =
-    let a = c .before .before .before .before .before .before .before .before .args in
-    sym (text-cells (a .cells .now) (a .base) (a .p) (c .before .before .before .before .before .before .before .before .pre .0) (a .side)
-    ∙ rw (eq-eqb _ _ (c .before .before .before .before .if1 .left), eq-eqb _ _ (c .before .before .if2 .left), ne-eqb _ _ (c .if3 .taken)))
+    let at-if2 = c .before .before in
+    let at-if1 = at-if2 .before .before in
+    let s = at-if1 .before .before .before .before in
+    let a = s .args in
+    sym (text-cells (a .cells .now) (a .base) (a .p) (s .pre .0) (a .side)
+    ∙ rw (eq-eqb _ _ (at-if1 .if1 .left), eq-eqb _ _ (at-if2 .if2 .left), ne-eqb _ _ (c .if3 .taken)))
 
 mul-result : tie.Need-mul-result
 mul-result c = search needs
@@ -62,9 +68,13 @@ shared-slice-read-result c = search needs
 
 returns-4 : tie.Need-returns-4
 returns-4 c =
-    let a = c .before .before .before .before .before .before .before .before .before .args in
-    sym (text-cells (a .cells .now) (a .base) (a .p) (c .before .before .before .before .before .before .before .before .before .pre .0) (a .side)
-    ∙ rw (eq-eqb _ _ (c .before .before .before .before .before .if1 .left), eq-eqb _ _ (c .before .before .before .if2 .left), eq-eqb _ _ (c .before .if3 .left)))
+    let at-if3 = c .before in
+    let at-if2 = at-if3 .before .before in
+    let at-if1 = at-if2 .before .before in
+    let s = at-if1 .before .before .before .before in
+    let a = s .args in
+    sym (text-cells (a .cells .now) (a .base) (a .p) (s .pre .0) (a .side)
+    ∙ rw (eq-eqb _ _ (at-if1 .if1 .left), eq-eqb _ _ (at-if2 .if2 .left), eq-eqb _ _ (at-if3 .if3 .left)))
 
 pub sides-same-spec : {M : Type 1} → statement M
 sides-same-spec =

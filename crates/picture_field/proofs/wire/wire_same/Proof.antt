@@ -17,8 +17,10 @@ shared-slice-read-if1 c = search needs
 
 returns : tie.Need-returns
 returns c =
-    let a = c .before .before .before .before .before .args in
-    sym (wire-cells (a .cells .now) (a .base) (a .p) (c .before .before .before .before .before .pre .0) (a .w) ∙ rw (ne-eqb _ _ (c .if1 .taken)))
+    let s = c .before .before .before .before .before in
+    let a = s .args in
+    sym (wire-cells (a .cells .now) (a .base) (a .p) (s .pre .0) (a .w)
+    ∙ rw (ne-eqb _ _ (c .if1 .taken)))
 
 add-if2 : tie.Need-add-if2
 add-if2 c = search needs
@@ -31,9 +33,11 @@ shared-slice-read-if2 c = search needs
 
 returns-2 : tie.Need-returns-2
 returns-2 c =
-    let a = c .before .before .before .before .before .before .before .before .args in
-    sym (wire-cells (a .cells .now) (a .base) (a .p) (c .before .before .before .before .before .before .before .before .pre .0) (a .w)
-    ∙ rw (eq-eqb _ _ (c .before .before .before .if1 .left), ne-eqb _ _ (c .if2 .taken)))
+    let at-if1 = c .before .before .before in
+    let s = at-if1 .before .before .before .before .before in
+    let a = s .args in
+    sym (wire-cells (a .cells .now) (a .base) (a .p) (s .pre .0) (a .w)
+    ∙ rw (eq-eqb _ _ (at-if1 .if1 .left), ne-eqb _ _ (c .if2 .taken)))
 
 add-run-same : tie.Need-add-run-same
 add-run-same c = search needs
@@ -52,17 +56,23 @@ run-same-requires-2 c κs = search needs
 
 returns-3 : tie.Need-returns-3
 returns-3 c =
-    let a = c .before .before .before .before .before .before .before .before .before .before .before .before .before .args in
-    let r = c .before .before .before in
-    sym (wire-cells (a .cells .now) (a .base) (a .p) (c .before .before .before .before .before .before .before .before .before .before .before .before .before .pre .0) (a .w)
-    ∙ rw (eq-eqb _ _ (r .before .before .before .before .before .if1 .left), eq-eqb _ _ (r .before .before .if2 .left), ← r .run-same .ensures, c .before .before .if3 .taken, ← c .run-same2 .ensures))
+    let at-run-same = c .before .before .before in
+    let at-if2 = at-run-same .before .before in
+    let at-if1 = at-if2 .before .before .before in
+    let s = at-if1 .before .before .before .before .before in
+    let a = s .args in
+    sym (wire-cells (a .cells .now) (a .base) (a .p) (s .pre .0) (a .w)
+    ∙ rw (eq-eqb _ _ (at-if1 .if1 .left), eq-eqb _ _ (at-if2 .if2 .left), ← at-run-same .run-same .ensures, c .before .before .if3 .taken, ← c .run-same2 .ensures))
 
 returns-4 : tie.Need-returns-4
 returns-4 c =
-    let a = c .before .before .before .before .before .before .before .before .before .before .before .args in
-    let r = c .before in
-    sym (wire-cells (a .cells .now) (a .base) (a .p) (c .before .before .before .before .before .before .before .before .before .before .before .pre .0) (a .w)
-    ∙ rw (eq-eqb _ _ (r .before .before .before .before .before .if1 .left), eq-eqb _ _ (r .before .before .if2 .left), ← r .run-same .ensures, c .if3 .left))
+    let at-run-same = c .before in
+    let at-if2 = at-run-same .before .before in
+    let at-if1 = at-if2 .before .before .before in
+    let s = at-if1 .before .before .before .before .before in
+    let a = s .args in
+    sym (wire-cells (a .cells .now) (a .base) (a .p) (s .pre .0) (a .w)
+    ∙ rw (eq-eqb _ _ (at-if1 .if1 .left), eq-eqb _ _ (at-if2 .if2 .left), ← at-run-same .run-same .ensures, c .if3 .left))
 
 pub wire-same-spec : {M : Type 1} → statement M
 wire-same-spec =

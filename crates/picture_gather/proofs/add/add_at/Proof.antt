@@ -20,7 +20,7 @@ element-copy-out-x : tie.Need-element-copy-out-x
 element-copy-out-x c =
     let s = c .before .before .before in
     let p = s .pre .0 in
-    column-few (lenOf (s .args .measure)) (p .0) (p .1) (p .2) (c .before .wide .ensures) (c .wide2 .ensures)
+    column-few (lenOf (s .args .sight .measure)) (p .0) (p .1) (p .2) (c .before .wide .ensures) (c .wide2 .ensures)
 
 mul-label-at : tie.Need-mul-label-at
 mul-label-at c = search needs
@@ -29,7 +29,7 @@ element-copy-out-label-at : tie.Need-element-copy-out-label-at
 element-copy-out-label-at c =
     let s = c .before .before .before .before in
     let p = s .pre .0 in
-    row-few (lenOf (s .args .measure)) (p .0) (p .1) (p .2) (c .before .before .wide .ensures) (c .before .wide2 .ensures)
+    row-few (lenOf (s .args .sight .measure)) (p .0) (p .1) (p .2) (c .before .before .wide .ensures) (c .before .wide2 .ensures)
 
 mul-label-at-2 : tie.Need-mul-label-at-2
 mul-label-at-2 c = search needs
@@ -38,40 +38,40 @@ element-copy-out-label-at-2 : tie.Need-element-copy-out-label-at-2
 element-copy-out-label-at-2 c =
     let s = c .before .before .before .before .before in
     let p = s .pre .0 in
-    row-few (lenOf (s .args .measure)) (p .0) (p .1) (p .2) (c .before .before .before .wide .ensures) (c .before .before .wide2 .ensures)
+    row-few (lenOf (s .args .sight .measure)) (p .0) (p .1) (p .2) (c .before .before .before .wide .ensures) (c .before .before .wide2 .ensures)
 
 label-at-requires : tie.Need-label-at-requires
 label-at-requires c κs =
     let s = c .before .before .before .before .before .before in
     let p = s .pre .0 in
-    let k = cx-within (lenOf (s .args .measure)) (p .0) (p .1) (p .2) (c .before .before .before .before .wide .ensures) (c .before .before .before .wide2 .ensures) in
-    (p .0 .held, cy-within (lenOf (s .args .measure)) (p .0) (p .1) (p .2) (c .before .before .before .before .wide .ensures) (c .before .before .before .wide2 .ensures), omega (arith, k))
+    let k = cx-within (lenOf (s .args .sight .measure)) (p .0) (p .1) (p .2) (c .before .before .before .before .wide .ensures) (c .before .before .before .wide2 .ensures) in
+    (p .0 .held, cy-within (lenOf (s .args .sight .measure)) (p .0) (p .1) (p .2) (c .before .before .before .before .wide .ensures) (c .before .before .before .wide2 .ensures), omega (arith, k))
 
 returns : tie.Need-returns
 returns c =
-    let a = c .before .before in
-    let s = a .before .before .before .before .before .before .before in
+    let at-label-at = c .before .before in
+    let s = at-label-at .before .before .before .before .before .before .before in
     let p = s .pre .0 in
-    answer-none (lenOf (s .args .measure)) (p .0) (p .1) (p .2) (a .before .before .before .before .before .wide .ensures) (a .before .before .before .before .wide2 .ensures) (a .label-at .ensures) (s .pre .1 .1) (s .pre .1 .0) (c .if1 .taken)
+    answer-none (lenOf (s .args .sight .measure)) (p .0) (p .1) (p .2) (at-label-at .before .before .before .before .before .wide .ensures) (at-label-at .before .before .before .before .wide2 .ensures) (at-label-at .label-at .ensures) (s .pre .1 .1) (s .pre .1 .0) (c .if1 .taken)
 
 none-requires : tie.Need-none-requires
 none-requires c κs = search needs
 
 returns-2 : tie.Need-returns-2
 returns-2 c =
-    let a = c .before .before .before .before in
-    let s = a .before .before .before .before .before .before .before in
+    let at-label-at = c .before .before .before .before in
+    let s = at-label-at .before .before .before .before .before .before .before in
     let p = s .pre .0 in
     answer-bad (c .none .ensures)
-    (answer-many (lenOf (s .args .measure)) (p .0) (p .1) (p .2) (a .before .before .before .before .before .wide .ensures) (a .before .before .before .before .wide2 .ensures) (a .label-at .ensures) (s .pre .1 .1) (omega (arith, c .before .before .if1 .left)) (omega (arith, c .before .if2 .taken)))
+    (answer-many (lenOf (s .args .sight .measure)) (p .0) (p .1) (p .2) (at-label-at .before .before .before .before .before .wide .ensures) (at-label-at .before .before .before .before .wide2 .ensures) (at-label-at .label-at .ensures) (s .pre .1 .1) (omega (arith, c .before .before .if1 .left)) (omega (arith, c .before .if2 .taken)))
 
 title-size-requires : tie.Need-title-size-requires
 title-size-requires c κs =
-    let a = c .before .before .before in
-    let s = a .before .before .before .before .before .before .before in
+    let at-label-at = c .before .before .before in
+    let s = at-label-at .before .before .before .before .before .before .before in
     let p = s .pre .0 in
-    let some : 1 ≤ a .label-at .result .lines = omega (arith, c .before .if1 .left) in
-    let (q, r) = label-within (lenOf (s .args .measure)) (p .0) (p .1) (p .2) (a .before .before .before .before .before .wide .ensures) (a .before .before .before .before .wide2 .ensures) (a .label-at .ensures) some in
+    let some : 1 ≤ at-label-at .label-at .result .lines = omega (arith, c .before .if1 .left) in
+    let (q, r) = label-within (lenOf (s .args .sight .measure)) (p .0) (p .1) (p .2) (at-label-at .before .before .before .before .before .wide .ensures) (at-label-at .before .before .before .before .wide2 .ensures) (at-label-at .label-at .ensures) some in
     ((p .0 .held, q, r, some), p .0 .marks-held)
 
 none-requires-2 : tie.Need-none-requires-2
@@ -79,23 +79,24 @@ none-requires-2 c κs = search needs
 
 returns-3 : tie.Need-returns-3
 returns-3 c =
-    let a = c .before .before .before .before .before .before in
-    let s = a .before .before .before .before .before .before .before in
+    let at-label-at = c .before .before .before .before .before .before in
+    let s = at-label-at .before .before .before .before .before .before .before in
     let p = s .pre .0 in
     answer-bad (c .none2 .ensures)
-    (answer-unfit (lenOf (s .args .measure)) (p .0) (p .1) (p .2) (a .before .before .before .before .before .wide .ensures) (a .before .before .before .before .wide2 .ensures) (a .label-at .ensures) (s .pre .1 .1) (omega (arith, c .before .before .before .before .if1 .left)) (c .before .before .title-size .ensures) (c .before .if3 .taken))
+    (answer-unfit (lenOf (s .args .sight .measure)) (p .0) (p .1) (p .2) (at-label-at .before .before .before .before .before .wide .ensures) (at-label-at .before .before .before .before .wide2 .ensures) (at-label-at .label-at .ensures) (s .pre .1 .1) (omega (arith, c .before .before .before .before .if1 .left)) (c .before .before .title-size .ensures) (c .before .if3 .taken))
 
 cast-store : tie.Need-cast-store
 cast-store c =
-    let s = c .before .before .before .before .before .before .before .before .before .before .before .before .before in
+    let at-label-at = c .before .before .before .before .before .before in
+    let s = at-label-at .before .before .before .before .before .before .before in
     record { fits = omega (arith, s .pre .1 .1 .bounded, s .pre .1 .1 .few) }
 
 cast-store-2 : tie.Need-cast-store-2
 cast-store-2 c =
-    let a = c .before .before .before .before .before .before in
-    let s = a .before .before .before .before .before .before .before in
+    let at-label-at = c .before .before .before .before .before .before in
+    let s = at-label-at .before .before .before .before .before .before .before in
     let p = s .pre .0 in
-    record { fits = omega (arith, size-small (lenOf (s .args .measure)) (p .0) (p .1) (p .2) (a .before .before .before .before .before .wide .ensures) (a .before .before .before .before .wide2 .ensures) (a .label-at .ensures) (s .pre .1 .1) (omega (arith, c .before .before .before .before .if1 .left)) (c .before .before .title-size .ensures) (c .before .if3 .left)) }
+    record { fits = omega (arith, size-small (lenOf (s .args .sight .measure)) (p .0) (p .1) (p .2) (at-label-at .before .before .before .before .before .wide .ensures) (at-label-at .before .before .before .before .wide2 .ensures) (at-label-at .label-at .ensures) (s .pre .1 .1) (omega (arith, c .before .before .before .before .if1 .left)) (c .before .before .title-size .ensures) (c .before .if3 .left)) }
 
 store-requires : tie.Need-store-requires
 store-requires c κs = search needs
@@ -105,22 +106,22 @@ add-nodes c = search needs
 
 add-bytes : tie.Need-add-bytes
 add-bytes c =
-    let t = c .before .before .before .before .before .before .before .before in
-    let a = c .before .before .before .before .before .before .before .before .before .before .before .before in
-    let s = a .before .before .before .before .before .before .before in
+    let at-title-size = c .before .before .before .before .before .before .before .before in
+    let at-label-at = at-title-size .before .before .before .before in
+    let s = at-label-at .before .before .before .before .before .before .before in
     let p = s .pre .0 in
-    let k = size-small (lenOf (s .args .measure)) (p .0) (p .1) (p .2) (a .before .before .before .before .before .wide .ensures) (a .before .before .before .before .wide2 .ensures) (a .label-at .ensures) (s .pre .1 .1) (omega (arith, t .before .before .if1 .left)) (t .title-size .ensures) (c .before .before .before .before .before .before .before .if3 .left) in
+    let k = size-small (lenOf (s .args .sight .measure)) (p .0) (p .1) (p .2) (at-label-at .before .before .before .before .before .wide .ensures) (at-label-at .before .before .before .before .wide2 .ensures) (at-label-at .label-at .ensures) (s .pre .1 .1) (omega (arith, at-title-size .before .before .if1 .left)) (at-title-size .title-size .ensures) (c .before .before .before .before .before .before .before .if3 .left) in
     record { fits = omega (arith, k, s .pre .1 .1 .bounded, s .pre .1 .1 .few) }
 
 returns-4 : tie.Need-returns-4
 returns-4 c =
-    let t = c .before .before .before .before .before .before .before .before in
-    let a = c .before .before .before .before .before .before .before .before .before .before .before .before in
-    let s = a .before .before .before .before .before .before .before in
+    let at-title-size = c .before .before .before .before .before .before .before .before in
+    let at-label-at = at-title-size .before .before .before .before in
+    let s = at-label-at .before .before .before .before .before .before .before in
     let p = s .pre .0 in
     let l = c .before .store .last .1 .1 .1 .1 .1 .1 .1 in
     let e = c .before .store .ensures in
-    answer-added (lenOf (s .args .measure)) (p .0) (p .1) (p .2) (a .before .before .before .before .before .wide .ensures) (a .before .before .before .before .wide2 .ensures) (a .label-at .ensures) (s .pre .1 .1) (omega (arith, t .before .before .if1 .left)) (t .title-size .ensures) (c .before .before .before .before .before .before .before .if3 .left) {table′ = l .0} {middle′ = l .1 .0} {ls′ = l .1 .1 .0} {most′ = l .1 .1 .1 .0} (omega (arith, t .before .if2 .left))
+    answer-added (lenOf (s .args .sight .measure)) (p .0) (p .1) (p .2) (at-label-at .before .before .before .before .before .wide .ensures) (at-label-at .before .before .before .before .wide2 .ensures) (at-label-at .label-at .ensures) (s .pre .1 .1) (omega (arith, at-title-size .before .before .if1 .left)) (at-title-size .title-size .ensures) (c .before .before .before .before .before .before .before .if3 .left) {table′ = l .0} {middle′ = l .1 .0} {ls′ = l .1 .1 .0} {most′ = l .1 .1 .1 .0} (omega (arith, at-title-size .before .if2 .left))
     (e .0) (e .1 .0) (e .1 .1 .0) (e .1 .1 .1)
 
 pub add-at-spec : {M : Type 1} → statement M

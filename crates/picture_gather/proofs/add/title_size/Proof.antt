@@ -31,9 +31,9 @@ block-sizes-requires c κs = search needs
 
 returns-3 : tie.Need-returns-3
 returns-3 c =
-    let s = c .before .before .before .before .before .before .before .before .before .before .args in
-    let b = c .before .before in
-    size-long (lenOf (s .measure)) (seen (s .cells .now) (s .width) (s .height)) _ _ _ _ _ (b .before .before .before .before .before .if1 .left) (b .before .before .before .before .half-up .ensures) (b .before .before .if2 .left) (b .block-sizes .ensures .0) refl (c .if3 .taken)
+    let at-block-sizes = c .before .before in
+    let s = at-block-sizes .before .before .before .before .before .before .before .before .args in
+    size-long (lenOf (s .sight .measure)) (seen (s .cells .now) (s .sight .width) (s .sight .height)) _ _ _ _ _ (at-block-sizes .before .before .before .before .before .if1 .left) (at-block-sizes .before .before .before .before .half-up .ensures) (at-block-sizes .before .before .if2 .left) (at-block-sizes .block-sizes .ensures .0) refl (c .if3 .taken)
 
 longest-of-requires : tie.Need-longest-of-requires
 longest-of-requires c κs = search needs
@@ -43,21 +43,21 @@ wide-requires c κs = search needs
 
 returns-4 : tie.Need-returns-4
 returns-4 c =
-    let l = c .before .before in
-    let b = l .before .before .before in
-    let s = b .before .before .before .before .before .before .before .before in
+    let at-longest-of = c .before .before in
+    let at-block-sizes = at-longest-of .before .before .before in
+    let s = at-block-sizes .before .before .before .before .before .before .before .before in
     let a = s .args in
-    let e = longest-by (a .measure) (seen (a .cells .now) (a .width) (a .height)) (seen-held (a .cells .now) (a .width) (a .height) (s .pre .1)) _ _ _ _ (l .longest-of .ensures) (b .block-sizes .ensures .1 .0) (b .block-sizes .ensures .1 .1) in
-    size-loose (lenOf (a .measure)) (seen (a .cells .now) (a .width) (a .height)) _ _ _ _ _ (b .before .before .before .before .before .if1 .left) (b .before .before .before .before .half-up .ensures) (b .before .before .if2 .left) (b .block-sizes .ensures .0) e (l .before .if3 .left) (c .before .wide .ensures) (c .if4 .taken)
+    let e = longest-by (a .sight .measure) (seen (a .cells .now) (a .sight .width) (a .sight .height)) (seen-held (a .cells .now) (a .sight .width) (a .sight .height) (s .pre .1)) _ _ _ _ (at-longest-of .longest-of .ensures) (at-block-sizes .block-sizes .ensures .1 .0) (at-block-sizes .block-sizes .ensures .1 .1) in
+    size-loose (lenOf (a .sight .measure)) (seen (a .cells .now) (a .sight .width) (a .sight .height)) _ _ _ _ _ (at-block-sizes .before .before .before .before .before .if1 .left) (at-block-sizes .before .before .before .before .half-up .ensures) (at-block-sizes .before .before .if2 .left) (at-block-sizes .block-sizes .ensures .0) e (at-longest-of .before .if3 .left) (c .before .wide .ensures) (c .if4 .taken)
 
 returns-5 : tie.Need-returns-5
 returns-5 c =
-    let l = c .before .before in
-    let b = l .before .before .before in
-    let s = b .before .before .before .before .before .before .before .before in
+    let at-longest-of = c .before .before in
+    let at-block-sizes = at-longest-of .before .before .before in
+    let s = at-block-sizes .before .before .before .before .before .before .before .before in
     let a = s .args in
-    let e = longest-by (a .measure) (seen (a .cells .now) (a .width) (a .height)) (seen-held (a .cells .now) (a .width) (a .height) (s .pre .1)) _ _ _ _ (l .longest-of .ensures) (b .block-sizes .ensures .1 .0) (b .block-sizes .ensures .1 .1) in
-    size-is (lenOf (a .measure)) (seen (a .cells .now) (a .width) (a .height)) _ _ _ _ _ (b .before .before .before .before .before .if1 .left) (b .before .before .before .before .half-up .ensures) (b .before .before .if2 .left) (b .block-sizes .ensures .0) e (l .before .if3 .left) (c .before .wide .ensures) (c .if4 .left)
+    let e = longest-by (a .sight .measure) (seen (a .cells .now) (a .sight .width) (a .sight .height)) (seen-held (a .cells .now) (a .sight .width) (a .sight .height) (s .pre .1)) _ _ _ _ (at-longest-of .longest-of .ensures) (at-block-sizes .block-sizes .ensures .1 .0) (at-block-sizes .block-sizes .ensures .1 .1) in
+    size-is (lenOf (a .sight .measure)) (seen (a .cells .now) (a .sight .width) (a .sight .height)) _ _ _ _ _ (at-block-sizes .before .before .before .before .before .if1 .left) (at-block-sizes .before .before .before .before .half-up .ensures) (at-block-sizes .before .before .if2 .left) (at-block-sizes .block-sizes .ensures .0) e (at-longest-of .before .if3 .left) (c .before .wide .ensures) (c .if4 .left)
 
 pub title-size-spec : {M : Type 1} → statement M
 title-size-spec =

@@ -11,11 +11,11 @@ use Rattle.picture_gather.proofs.collect.gather.Statement.{statement}
 use Rattle.picture_gather.proofs.collect.gather.Tie as tie
 
 abbrev Inv-loop : tie.InvT-loop
-Inv-loop cells width height measure g cx ncols band cy nrows table₀ middle₀ lines₀ longest₀ c₀ j₀ table middle lines longest c j =
-    (j ≤ ncols) × (c .bad ≡ false) × Partly (lenOf measure) cells width height (cellsBefore (marksIn g) cells width height j 0) (c .nodes) (c .bytes) table middle lines longest
+Inv-loop cells sight cx ncols band cy nrows table₀ middle₀ lines₀ longest₀ c₀ j₀ table middle lines longest c j =
+    (j ≤ ncols) × (c .bad ≡ false) × Partly (lenOf (sight .measure)) cells (sight .width) (sight .height) (cellsBefore (marksIn (sight .marks)) cells (sight .width) (sight .height) j 0) (c .nodes) (c .bytes) table middle lines longest
 
 abbrev μ-loop : tie.MeasureT-loop
-μ-loop cells width height measure g cx ncols band cy nrows table₀ middle₀ lines₀ longest₀ c₀ j₀ table middle lines longest c j =
+μ-loop cells sight cx ncols band cy nrows table₀ middle₀ lines₀ longest₀ c₀ j₀ table middle lines longest c j =
     ncols - j
 
 loop-holds : tie.Need-loop-holds Inv-loop μ-loop

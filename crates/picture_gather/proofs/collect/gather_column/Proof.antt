@@ -11,11 +11,11 @@ use Rattle.picture_gather.proofs.collect.gather_column.Statement.{state
 use Rattle.picture_gather.proofs.collect.gather_column.Tie as tie
 
 abbrev Inv-loop : tie.InvT-loop
-Inv-loop cells width height measure g cx j band cy nrows table₀ middle₀ lines₀ longest₀ c₀ i₀ table middle lines longest c i =
-    (i ≤ nrows) × (c .bad ≡ false) × Partly (lenOf measure) cells width height (cellsBefore (marksIn g) cells width height j i) (c .nodes) (c .bytes) table middle lines longest
+Inv-loop cells sight cx j band cy nrows table₀ middle₀ lines₀ longest₀ c₀ i₀ table middle lines longest c i =
+    (i ≤ nrows) × (c .bad ≡ false) × Partly (lenOf (sight .measure)) cells (sight .width) (sight .height) (cellsBefore (marksIn (sight .marks)) cells (sight .width) (sight .height) j i) (c .nodes) (c .bytes) table middle lines longest
 
 abbrev μ-loop : tie.MeasureT-loop
-μ-loop cells width height measure g cx j band cy nrows table₀ middle₀ lines₀ longest₀ c₀ i₀ table middle lines longest c i =
+μ-loop cells sight cx j band cy nrows table₀ middle₀ lines₀ longest₀ c₀ i₀ table middle lines longest c i =
     nrows - i
 
 loop-holds : tie.Need-loop-holds Inv-loop μ-loop

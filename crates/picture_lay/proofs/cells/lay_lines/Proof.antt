@@ -110,42 +110,52 @@ same-length c = search needs
 
 returns : tie.Need-returns Inv-loop μ-loop
 returns c =
-    let e = c .before .before .before .before .before .before .line-end in
-    let l = c .before .before .before .before .before .before .before .loop in
-    let a = c .before .before .before .before .before .before .before .before .before .before .args in
+    let at-lay-row = c .before .before .before in
+    let at-line-end = at-lay-row .before .before .before in
+    let at-loop = at-line-end .before in
+    let e = at-line-end .line-end in
+    let l = at-loop .loop in
+    let a = at-loop .before .before .before .args in
     let Q = rows (a .width) (linesOf (a .bytes .now)) in
     let h = laying Q (a .bytes .now) (l .at) (e .result) (l .from) (a .width) (l .inv .0) (l .inv .2) (l .inv .3) (l .inv .4) (l .inv .5) (e .ensures) in
-    row-back Q (a .cells .now) (l .cells) (c .before .before .before .lay-row .last .0) (take (e .result - l .at) (drop (l .at) (a .bytes .now))) (l .from) (a .width) (h .room) (search needs) (h .part) (l .inv .6) (c .before .before .before .lay-row .ensures)
+    row-back Q (a .cells .now) (l .cells) (at-lay-row .lay-row .last .0) (take (e .result - l .at) (drop (l .at) (a .bytes .now))) (l .from) (a .width) (h .room) (search needs) (h .part) (l .inv .6) (at-lay-row .lay-row .ensures)
     ∙ ap (λ (k : ℕ). laid (take k Q) (a .cells .now)) (h .last (c .if1 .taken))
     ∙ rw (take-length Q)
 
 add-at : tie.Need-add-at Inv-loop μ-loop
 add-at c =
-    let e = c .before .before .before .before .before .before .line-end in
-    let l = c .before .before .before .before .before .before .before .loop in
-    let a = c .before .before .before .before .before .before .before .before .before .before .args in
+    let at-line-end = c .before .before .before .before .before .before in
+    let at-loop = at-line-end .before in
+    let e = at-line-end .line-end in
+    let l = at-loop .loop in
+    let a = at-loop .before .before .before .args in
     let Q = rows (a .width) (linesOf (a .bytes .now)) in
     let h = laying Q (a .bytes .now) (l .at) (e .result) (l .from) (a .width) (l .inv .0) (l .inv .2) (l .inv .3) (l .inv .4) (l .inv .5) (e .ensures) in
     record { fits = omega (arith, h .line .fits) }
 
 loop-less : tie.Need-loop-less Inv-loop μ-loop
 loop-less c =
-    let e = c .before .before .before .before .before .before .line-end in
-    let l = c .before .before .before .before .before .before .before .loop in
-    let a = c .before .before .before .before .before .before .before .before .before .before .args in
+    let at-line-end = c .before .before .before .before .before .before in
+    let at-loop = at-line-end .before in
+    let e = at-line-end .line-end in
+    let l = at-loop .loop in
+    let a = at-loop .before .before .before .args in
     let Q = rows (a .width) (linesOf (a .bytes .now)) in
     let h = laying Q (a .bytes .now) (l .at) (e .result) (l .from) (a .width) (l .inv .0) (l .inv .2) (l .inv .3) (l .inv .4) (l .inv .5) (e .ensures) in
     omega (arith, h .line .begins, h .line .fits)
 
 loop-again : tie.Need-loop-again Inv-loop μ-loop
 loop-again c =
-    let e = c .before .before .before .before .before .before .line-end in
-    let l = c .before .before .before .before .before .before .before .loop in
-    let a = c .before .before .before .before .before .before .before .before .before .before .args in
+    let at-lay-row = c .before .before .before in
+    let at-line-end = at-lay-row .before .before .before in
+    let at-loop = at-line-end .before in
+    let e = at-line-end .line-end in
+    let l = at-loop .loop in
+    let a = at-loop .before .before .before .args in
     let Q = rows (a .width) (linesOf (a .bytes .now)) in
     let h = laying Q (a .bytes .now) (l .at) (e .result) (l .from) (a .width) (l .inv .0) (l .inv .2) (l .inv .3) (l .inv .4) (l .inv .5) (e .ensures) in
     let g = h .next (omega (arith, h .line .fits)) in
-    (omega (arith, h .line .fits), search needs, g .0, g .1, h .room, g .2, row-back Q (a .cells .now) (l .cells) (c .before .before .before .lay-row .last .0) (take (e .result - l .at) (drop (l .at) (a .bytes .now))) (l .from) (a .width) (h .room) (search needs) (h .part) (l .inv .6) (c .before .before .before .lay-row .ensures))
+    (omega (arith, h .line .fits), search needs, g .0, g .1, h .room, g .2, row-back Q (a .cells .now) (l .cells) (at-lay-row .lay-row .last .0) (take (e .result - l .at) (drop (l .at) (a .bytes .now))) (l .from) (a .width) (h .room) (search needs) (h .part) (l .inv .6) (at-lay-row .lay-row .ensures))
 
 pub lay-lines-spec : {M : Type 1} → statement M
 lay-lines-spec =

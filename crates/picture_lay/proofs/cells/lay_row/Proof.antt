@@ -15,8 +15,9 @@ same-length c = search needs
 
 returns : tie.Need-returns
 returns c =
-    let a = c .before .before .before .before .before .before .before .before .before .before .args in
-    let p = c .before .before .before .before .before .before .put-points in
+    let at-put-points = c .before .before .before .before .before .before in
+    let a = at-put-points .before .before .before .before .args in
+    let p = at-put-points .put-points in
     let f = c .before .before .fill in
     row-laid (a .row .now) (p .last .0) (f .last .0) (a .line .now) (p .result) (search needs) (p .ensures .0) (p .ensures .1) (f .ensures)
 

@@ -34,16 +34,18 @@ put-long-requires c κs =
 
 same-length : tie.Need-same-length Inv-loop μ-loop
 same-length c =
-    let l = c .before .before .before .before .before .before .loop in
-    let s = c .before .before .before .before .before .before .before .before .before in
+    let at-loop = c .before .before .before .before .before .before in
+    let l = at-loop .loop in
+    let s = at-loop .before .before .before in
     let a = s .args in
     let r = c .before .before .put-long in
     copied-length (a .row .now) (a .k) (a .line .now) (a .from) (r .result) (r .last .0) (copied-on (a .row .now) (a .k) (a .line .now) (a .from) (l .at) (l .to) (l .row) (l .inv .0) (l .inv .2) (r .result) (r .last .0) (r .ensures .0))
 
 returns : tie.Need-returns Inv-loop μ-loop
 returns c =
-    let l = c .before .before .before .before .before .before .loop in
-    let s = c .before .before .before .before .before .before .before .before .before in
+    let at-loop = c .before .before .before .before .before .before in
+    let l = at-loop .loop in
+    let s = at-loop .before .before .before in
     let a = s .args in
     let r = c .before .before .put-long in
     run-on (a .row .now) (a .k) (a .line .now) (a .from) (l .at) (l .to) (l .row) (l .inv .0) (l .inv .2) (r .result) (r .last .0) (r .ensures)
@@ -67,10 +69,13 @@ add-at c = search needs
 
 add-to : tie.Need-add-to Inv-loop μ-loop
 add-to c =
-    let l = c .before .before .before .before .before .before .before .before .loop in
-    let s = c .before .before .before .before .before .before .before .before .before .before .before in
+    let at-if2 = c .before .before .before .before in
+    let at-sixteen-within = at-if2 .before in
+    let at-loop = at-sixteen-within .before .before .before in
+    let l = at-loop .loop in
+    let s = at-loop .before .before .before in
     let a = s .args in
-    let w = c .before .before .before .before .before .sixteen-within .ensures .0 (c .before .before .before .before .if2 .taken) in
+    let w = at-sixteen-within .sixteen-within .ensures .0 (at-if2 .if2 .taken) in
     let q = fits-on (a .row .now) (a .k) (a .line .now) (a .from) (l .at) (l .to) (l .row) (l .inv .0) (l .inv .2) (s .pre .1) (l .at + 16) (omega arith) (omega arith) w in
     search needs
 
@@ -79,10 +84,13 @@ loop-less c = search needs
 
 loop-again : tie.Need-loop-again Inv-loop μ-loop
 loop-again c =
-    let l = c .before .before .before .before .before .before .before .before .loop in
-    let s = c .before .before .before .before .before .before .before .before .before .before .before in
+    let at-if2 = c .before .before .before .before in
+    let at-sixteen-within = at-if2 .before in
+    let at-loop = at-sixteen-within .before .before .before in
+    let l = at-loop .loop in
+    let s = at-loop .before .before .before in
     let a = s .args in
-    let w = c .before .before .before .before .before .sixteen-within .ensures .0 (c .before .before .before .before .if2 .taken) in
+    let w = at-sixteen-within .sixteen-within .ensures .0 (at-if2 .if2 .taken) in
     let r = c .before .before .copy in
     let q = copied-on (a .row .now) (a .k) (a .line .now) (a .from) (l .at) (l .to) (l .row) (l .inv .0) (l .inv .2) (l .at + 16) (r .last .0) (omega arith, omega arith, w, r .ensures) in
     (omega (arith, l .inv .0, l .inv .2 .0), copied-length (a .row .now) (a .k) (a .line .now) (a .from) (l .at + 16) (r .last .0) q, q)
@@ -96,16 +104,18 @@ put-few-requires c κs =
 
 same-length-2 : tie.Need-same-length-2 Inv-loop μ-loop
 same-length-2 c =
-    let l = c .before .before .before .before .before .before .before .before .loop in
-    let s = c .before .before .before .before .before .before .before .before .before .before .before in
+    let at-loop = c .before .before .before .before .before .before .before .before in
+    let l = at-loop .loop in
+    let s = at-loop .before .before .before in
     let a = s .args in
     let r = c .before .before .put-few in
     copied-length (a .row .now) (a .k) (a .line .now) (a .from) (r .result) (r .last .0) (copied-on (a .row .now) (a .k) (a .line .now) (a .from) (l .at) (l .to) (l .row) (l .inv .0) (l .inv .2) (r .result) (r .last .0) (r .ensures .0))
 
 returns-2 : tie.Need-returns-2 Inv-loop μ-loop
 returns-2 c =
-    let l = c .before .before .before .before .before .before .before .before .loop in
-    let s = c .before .before .before .before .before .before .before .before .before .before .before in
+    let at-loop = c .before .before .before .before .before .before .before .before in
+    let l = at-loop .loop in
+    let s = at-loop .before .before .before in
     let a = s .args in
     let r = c .before .before .put-few in
     run-on (a .row .now) (a .k) (a .line .now) (a .from) (l .at) (l .to) (l .row) (l .inv .0) (l .inv .2) (r .result) (r .last .0) (r .ensures)

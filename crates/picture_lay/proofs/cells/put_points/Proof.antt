@@ -58,26 +58,32 @@ returns c =
 
 put-wide-requires : tie.Need-put-wide-requires Inv-loop μ-loop
 put-wide-requires c κs =
-    let l = c .before .before .before .before .before .before .loop in
-    let r = c .before .before .before .before .put-plain in
-    let a = c .before .before .before .before .before .before .before .before .before .args in
+    let at-put-plain = c .before .before .before .before in
+    let at-loop = at-put-plain .before .before in
+    let l = at-loop .loop in
+    let r = at-put-plain .put-plain in
+    let a = at-loop .before .before .before .args in
     let f = left-run (l .row) (a .line .now) (l .at) (l .k) (l .inv) (r .result) (r .last .0) (r .ensures .0) in
     (omega (arith, r .ensures .0 .1), f .rest, f .room)
 
 loop-less : tie.Need-loop-less Inv-loop μ-loop
 loop-less c =
-    let l = c .before .before .before .before .before .before .before .before .before .loop in
-    let r = c .before .before .before .before .before .before .before .put-plain in
-    let a = c .before .before .before .before .before .before .before .before .before .before .before .before .args in
+    let at-put-plain = c .before .before .before .before .before .before .before in
+    let at-loop = at-put-plain .before .before in
+    let l = at-loop .loop in
+    let r = at-put-plain .put-plain in
+    let a = at-loop .before .before .before .args in
     let f = left-run (l .row) (a .line .now) (l .at) (l .k) (l .inv) (r .result) (r .last .0) (r .ensures .0) in
     let p = c .before .before .put-wide in
     omega (arith, p .ensures .0, p .ensures .1 .here, r .ensures .0 .0)
 
 loop-again : tie.Need-loop-again Inv-loop μ-loop
 loop-again c =
-    let l = c .before .before .before .before .before .before .before .before .before .loop in
-    let r = c .before .before .before .before .before .before .before .put-plain in
-    let a = c .before .before .before .before .before .before .before .before .before .before .before .before .args in
+    let at-put-plain = c .before .before .before .before .before .before .before in
+    let at-loop = at-put-plain .before .before in
+    let l = at-loop .loop in
+    let r = at-put-plain .put-plain in
+    let a = at-loop .before .before .before .args in
     let f = left-run (l .row) (a .line .now) (l .at) (l .k) (l .inv) (r .result) (r .last .0) (r .ensures .0) in
     let p = c .before .before .put-wide in
     left-on (r .last .0) (a .line .now) (r .result) (l .k + (r .result - l .at)) f (p .ensures .1)

@@ -107,36 +107,44 @@ shared-slice-read-if2 c =
 
 same-length-2 : tie.Need-same-length-2 Inv-loop μ-loop
 same-length-2 c =
-    let d = c .before .before .before .before .decode in
-    let l = c .before .before .before .before .before .before .loop in
-    let a = c .before .before .before .before .before .before .before .before .before .args in
+    let at-decode = c .before .before .before .before in
+    let at-loop = at-decode .before .before in
+    let d = at-decode .decode in
+    let l = at-loop .loop in
+    let a = at-loop .before .before .before .args in
     let f = l .inv .2 in
     let h = lent-char (a .line .now) (l .at) (d .result .value) (d .result .size) (omega arith) (f .rest) (d .ensures .0) (d .ensures .1) in
     left-char (l .row) (a .line .now) (l .at) (l .to) f (d .result .value) (d .result .size) h .long
 
 returns-2 : tie.Need-returns-2 Inv-loop μ-loop
 returns-2 c =
-    let d = c .before .before .before .before .decode in
-    let l = c .before .before .before .before .before .before .loop in
-    let a = c .before .before .before .before .before .before .before .before .before .args in
+    let at-decode = c .before .before .before .before in
+    let at-loop = at-decode .before .before in
+    let d = at-decode .decode in
+    let l = at-loop .loop in
+    let a = at-loop .before .before .before .args in
     let f = l .inv .2 in
     let h = lent-char (a .line .now) (l .at) (d .result .value) (d .result .size) (omega arith) (f .rest) (d .ensures .0) (d .ensures .1) in
     (omega (arith, h .some), left-char (l .row) (a .line .now) (l .at) (l .to) f (d .result .value) (d .result .size) h, (wide-on (a .line .now) (a .from) (l .at) (d .result .value) (d .result .size) h (l .inv .3), λ k. omega arith))
 
 loop-less : tie.Need-loop-less Inv-loop μ-loop
 loop-less c =
-    let d = c .before .before .before .before .decode in
-    let l = c .before .before .before .before .before .before .loop in
-    let a = c .before .before .before .before .before .before .before .before .before .args in
+    let at-decode = c .before .before .before .before in
+    let at-loop = at-decode .before .before in
+    let d = at-decode .decode in
+    let l = at-loop .loop in
+    let a = at-loop .before .before .before .args in
     let f = l .inv .2 in
     let h = lent-char (a .line .now) (l .at) (d .result .value) (d .result .size) (omega arith) (f .rest) (d .ensures .0) (d .ensures .1) in
     omega (arith, h .fits, h .some)
 
 loop-again : tie.Need-loop-again Inv-loop μ-loop
 loop-again c =
-    let d = c .before .before .before .before .decode in
-    let l = c .before .before .before .before .before .before .loop in
-    let a = c .before .before .before .before .before .before .before .before .before .args in
+    let at-decode = c .before .before .before .before in
+    let at-loop = at-decode .before .before in
+    let d = at-decode .decode in
+    let l = at-loop .loop in
+    let a = at-loop .before .before .before .args in
     let f = l .inv .2 in
     let h = lent-char (a .line .now) (l .at) (d .result .value) (d .result .size) (omega arith) (f .rest) (d .ensures .0) (d .ensures .1) in
     (omega (arith, h .some), omega (arith, h .fits), left-char (l .row) (a .line .now) (l .at) (l .to) f (d .result .value) (d .result .size) h, wide-more (a .line .now) (a .from) (l .at) (d .result .value) (d .result .size) h (l .inv .3) (omega arith))

@@ -51,11 +51,14 @@ same-length c = search needs
 
 returns-3 : tie.Need-returns-3
 returns-3 c =
-    let s = c .before .before .before .before .before .before .before .before .before .before .before in
-    let b = c .before .before .before .before .before .before .before .before .body in
-    let z = c .before .before .before .before .before .before .before .measure-lines in
-    let r = c .before .before .before .before .before .before .area in
-    put (s .args .picture .now) (s .args .cells .now) (s .pre .0) (s .pre .1) (b .result .now) (b .ensures) (z .result .lines) (z .result .longest) (r .result) (z .result .spaced) (z .ensures) (r .ensures) (search needs) (c .before .before .lay .last .1 .0) (search needs) (c .before .before .lay .ensures)
+    let at-lay = c .before .before in
+    let at-if2 = at-lay .before .before in
+    let at-if1 = at-if2 .before in
+    let b = at-if1 .before .before .before .body in
+    let z = at-if1 .before .before .measure-lines in
+    let r = at-if1 .before .area in
+    let s = at-if1 .before .before .before .before .before .before in
+    put (s .args .picture .now) (s .args .cells .now) (s .pre .0) (s .pre .1) (b .result .now) (b .ensures) (z .result .lines) (z .result .longest) (r .result) (z .result .spaced) (z .ensures) (r .ensures) (at-if1 .if1 .left) (at-lay .lay .last .1 .0) (at-if2 .if2 .left) (at-lay .lay .ensures)
 
 pub start-ended-spec : {M : Type 1} → statement M
 start-ended-spec =

@@ -1,13 +1,9 @@
--- Each answer of levels and tree_view is the rules' for the plan that was gathered; then the size refuses the drawing, or the rest tells.
+-- Each answer of levels and tree_view is the rules' for the plan that was gathered; so its columns are laid, and the rest tells.
 use mathlib.Core.Path.{refl}
 use native.Mathlib.Omega.{arith}
-use Rattle.rules.specs.Look.{lenOf, marksIn}
-use Rattle.picture_sight.specs.Seen.{seen}
-use Rattle.picture_sight.specs.Plan.{planSeen}
-use Rattle.tree_view.proofs.Limits.{columns-le, rows-le}
-use Rattle.picture_same.proofs.Known.{drawable, limits}
-use Rattle.picture_same.proofs.Planned.{table-long, depth-low, rows-view, columns-view, column-of, digits-ask, digits-are, digits-few, columns-ask, rows-ask, columns-laid, rows-laid, rows-fit, sizes-ask, sizes-are, row-centers-ask, numbers}
-use Rattle.picture_same.proofs.Told.{right-size, other-size}
+use Rattle.tree_view.proofs.Limits.{columns-le}
+use Rattle.picture_same.proofs.Known.{limits}
+use Rattle.picture_same.proofs.Planned.{table-long, depth-low, rows-view, columns-view, column-of, digits-ask, digits-are, digits-few, columns-ask, columns-laid}
 use Rattle.picture_same.proofs.draw.same.Statement.{statement}
 use Rattle.picture_same.proofs.draw.same.Tie as tie
 
@@ -44,75 +40,18 @@ tree-columns-requires c κs =
       ),
     )
 
-tree-rows-requires : tie.Need-tree-rows-requires
-tree-rows-requires c κs =
-    let v = c .before .before .before .before .before .before .before .before .pre in
-    let r = rows-view v _ (c .before .before .before .before .before .rows .ensures) in
-    ((omega (arith, table-long v), rows-ask v), omega (arith, r, rows-le _ (limits v)))
-
-sized-requires : tie.Need-sized-requires
-sized-requires c κs =
-    let t = c .before .before .before .before .before .before in
-    let u = t .before in
-    let g = u .before .before in
-    let q = g .before in
-    let o = q .before .before in
-    let s = o .before .before .before in
-    let v = s .pre in
-    let r = rows-view v _ (o .rows .ensures) in
-    let k = columns-laid v _ _ _ _ _ _ (q .columns .ensures .1) (columns-view v _ (q .columns .ensures .0)) (digits-are v _ _ r (g .index-digits .ensures)) (u .tree-columns .ensures) in
-    let l = rows-laid v _ _ r (t .tree-rows .ensures) in
-    sizes-ask v k l r
-
-row-centers-requires : tie.Need-row-centers-requires
-row-centers-requires c κs =
-    let t = c .before .before .before .before .before .before .before .before .before .before .before .before in
-    let u = t .before in
-    let g = u .before .before in
-    let q = g .before in
-    let o = q .before .before in
-    let s = o .before .before .before in
-    let v = s .pre in
-    let r = rows-view v _ (o .rows .ensures) in
-    let k = columns-laid v _ _ _ _ _ _ (q .columns .ensures .1) (columns-view v _ (q .columns .ensures .0)) (digits-are v _ _ r (g .index-digits .ensures)) (u .tree-columns .ensures) in
-    let l = rows-laid v _ _ r (t .tree-rows .ensures) in
-    (rows-fit v _ r .1, row-centers-ask v k l r)
-
 matches-requires : tie.Need-matches-requires
 matches-requires c κs =
-    let y = c .before .before .before .before .before .before .before in
-    let i = y .before .before .before .before .before in
-    let z = i .before in
-    let t = z .before .before .before .before .before .before .before in
-    let u = t .before in
-    let g = u .before .before in
-    let q = g .before in
-    let o = q .before .before in
-    let s = o .before .before .before in
-    let v = s .pre in
-    let r = rows-view v _ (o .rows .ensures) in
-    let k = columns-laid v _ _ _ _ _ _ (q .columns .ensures .1) (columns-view v _ (q .columns .ensures .0)) (digits-are v _ _ r (g .index-digits .ensures)) (u .tree-columns .ensures) in
-    let l = rows-laid v _ _ r (t .tree-rows .ensures) in
-    let e = right-size (lenOf (s .args .measure)) (marksIn (s .args .g)) (planSeen (marksIn (s .args .g)) (s .args .cells .now) (s .args .width) (s .args .height)) (drawable v) (seen (s .args .cells .now) (s .args .width) (s .args .height)) (s .args .width) (s .args .height) _ (sizes-are v k l r _ (z .sized .ensures)) (i .if1 .taken) in
-    (v, (column-of v _ (q .columns .ensures .1), numbers v k l r _ (y .row-centers .ensures) (e .0) (e .1)))
+    let at-index-digits = c .before .before .before .before .before .before .before in
+    let at-columns = at-index-digits .before in
+    let at-rows = at-columns .before .before in
+    let v = at-rows .before .before .before .pre in
+    let r = rows-view v _ (at-rows .rows .ensures) in
+    let k = at-columns .columns .ensures in
+    (v, (column-of v _ (k .1), (columns-laid v _ _ _ _ _ _ (k .1) (columns-view v _ (k .0)) (digits-are v _ _ r (at-index-digits .index-digits .ensures)) (c .before .before .before .before .before .tree-columns .ensures), r)))
 
 returns : tie.Need-returns
 returns c = c .matches .ensures
-
-returns-2 : tie.Need-returns-2
-returns-2 c =
-    let z = c .before in
-    let t = z .before .before .before .before .before .before .before in
-    let u = t .before in
-    let g = u .before .before in
-    let q = g .before in
-    let o = q .before .before in
-    let s = o .before .before .before in
-    let v = s .pre in
-    let r = rows-view v _ (o .rows .ensures) in
-    let k = columns-laid v _ _ _ _ _ _ (q .columns .ensures .1) (columns-view v _ (q .columns .ensures .0)) (digits-are v _ _ r (g .index-digits .ensures)) (u .tree-columns .ensures) in
-    let l = rows-laid v _ _ r (t .tree-rows .ensures) in
-    other-size (lenOf (s .args .measure)) (marksIn (s .args .g)) (planSeen (marksIn (s .args .g)) (s .args .cells .now) (s .args .width) (s .args .height)) (drawable v) (seen (s .args .cells .now) (s .args .width) (s .args .height)) (s .args .width) (s .args .height) _ (sizes-are v k l r _ (z .sized .ensures)) (c .if1 .left)
 
 pub same-spec : {M : Type 1} → statement M
 same-spec =
@@ -123,9 +62,5 @@ same-spec =
     index-digits-requires
     add-tree-columns
     tree-columns-requires
-    tree-rows-requires
-    sized-requires
-    row-centers-requires
     matches-requires
-    returns
-    returns-2)
+    returns)

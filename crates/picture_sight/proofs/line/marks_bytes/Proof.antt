@@ -1,7 +1,7 @@
 -- The invariant: `total` is the bytes of the first k marks, at most 4 each.
 use Prim.Native.Nat.{ℕ, _+_, _*_, _≤_, _-_}
-use mathlib.Core.List.{List, map}
-use mathlib.Core.Path.{_≡_, ap, sym, _∙_}
+use mathlib.Core.List.{map}
+use mathlib.Core.Path.{_≡_, ap, sym}
 use native.Mathlib.Omega.{arith}
 use lib.ListN.{length}
 use Rattle.rules.specs.Base.{concat}

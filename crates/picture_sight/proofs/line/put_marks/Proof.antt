@@ -1,6 +1,6 @@
 -- The invariant: the bytes of the first k marks are stored.
 use Prim.Native.Nat.{ℕ, _+_, _≤_, _<_, _-_}
-use mathlib.Core.List.{List, map}
+use mathlib.Core.List.{map}
 use mathlib.Core.Path.{_≡_, ap, sym, _∙_}
 use native.Mathlib.Omega.{arith}
 use lib.ListN.{length}
@@ -54,14 +54,16 @@ loop-less c = search needs
 
 loop-again : tie.Need-loop-again Inv-loop μ-loop
 loop-again c =
-    let s = c .before .before .before .before .before .before .before .before .before in
-    let l = c .before .before .before .before .before .before .loop in
+    let at-at = c .before .before .before .before in
+    let at-loop = at-at .before .before in
+    let s = at-loop .before .before .before in
+    let l = at-loop .loop in
     let f : ℕ → ℕ = λ q. seen (s .args .cells .now) (s .args .width) (s .args .height) (s .args .x + q) (s .args .y) in
-    let e : c .before .before .before .before .at .result ≡ f (l .k) = c .before .before .before .before .at .ensures in (
+    let e : at-at .at .result ≡ f (l .k) = at-at .at .ensures in (
       search needs,
-      ap length (c .before .before .encode .ensures .1) ∙ length-sets (l .out) (l .to) (utf8 (c .before .before .before .before .at .result)) ∙ l .inv .1,
+      ap length (c .before .before .encode .ensures .1) ∙ length-sets (l .out) (l .to) (utf8 (at-at .at .result)) ∙ l .inv .1,
       omega (arith, c .before .before .encode .ensures .0, length-more f (l .k), ap (λ v. length (utf8 v)) e, l .inv .2),
-      bytes-stored f (s .args .out .now) (l .out) (c .before .before .encode .last .1 .0) (s .args .from) (l .to) (l .k) (c .before .before .before .before .at .result) e (l .inv .2) (l .inv .3) (c .before .before .encode .ensures .1),
+      bytes-stored f (s .args .out .now) (l .out) (c .before .before .encode .last .1 .0) (s .args .from) (l .to) (l .k) (at-at .at .result) e (l .inv .2) (l .inv .3) (c .before .before .encode .ensures .1),
     )
 
 same-length : tie.Need-same-length Inv-loop μ-loop

@@ -1,5 +1,5 @@
 -- The invariant: the first k lines are stored.
-use Prim.Native.Nat.{ℕ, _+_, _≤_, _<_, _-_}
+use Prim.Native.Nat.{ℕ, _+_, _≤_, _-_}
 use mathlib.Core.List.{List, map}
 use mathlib.Core.Path.{_≡_, refl, ap, sym, _∙_}
 use native.Mathlib.Omega.{arith}
@@ -59,8 +59,9 @@ add-write-line c = search needs
 
 add-write-line-2 : tie.Need-add-write-line-2 Inv-loop μ-loop
 add-write-line-2 c =
-    let s = c .before .before .before .before .before .before .before .before .before in
-    let l = c .before .before .loop in
+    let at-loop = c .before .before in
+    let s = at-loop .before .before .before .before .before .before .before in
+    let l = at-loop .loop in
     let g : ℕ → ℕ → ℕ = seen (s .args .cells .now) (s .args .width) (s .args .height) in
     let f : ℕ → List ℕ = λ k. lineAt g (s .args .x) (s .args .y + k) (s .args .t) in
     let w : l .k + 1 + (s .args .n - (l .k + 1)) ≡ s .args .n = omega arith in
@@ -70,8 +71,9 @@ add-write-line-2 c =
 
 write-line-requires-2 : tie.Need-write-line-requires-2 Inv-loop μ-loop
 write-line-requires-2 c κs =
-    let s = c .before .before .before .before .before .before .before .before .before in
-    let l = c .before .before .loop in
+    let at-loop = c .before .before in
+    let s = at-loop .before .before .before .before .before .before .before in
+    let l = at-loop .loop in
     let g : ℕ → ℕ → ℕ = seen (s .args .cells .now) (s .args .width) (s .args .height) in
     let f : ℕ → List ℕ = λ k. lineAt g (s .args .x) (s .args .y + k) (s .args .t) in
     let w : l .k + 1 + (s .args .n - (l .k + 1)) ≡ s .args .n = omega arith in
@@ -87,8 +89,9 @@ loop-less c = search needs
 
 loop-again : tie.Need-loop-again Inv-loop μ-loop
 loop-again c =
-    let s = c .before .before .before .before .before .before .before .before .before .before .before .before in
-    let l = c .before .before .before .before .before .loop in
+    let at-loop = c .before .before .before .before .before in
+    let s = at-loop .before .before .before .before .before .before .before in
+    let l = at-loop .loop in
     let r = c .before .before .write-line2 in
     let g : ℕ → ℕ → ℕ = seen (s .args .cells .now) (s .args .width) (s .args .height) in
     let f : ℕ → List ℕ = λ k. lineAt g (s .args .x) (s .args .y + k) (s .args .t) in

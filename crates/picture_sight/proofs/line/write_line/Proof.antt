@@ -39,11 +39,14 @@ same-length c = search needs
 
 returns : tie.Need-returns
 returns c =
-    let s = c .before .before .before .before .before .before .before .before .before in
+    let at-row-at = c .before .before .before .before in
+    let at-if1 = at-row-at .before in
+    let at-on-row = at-if1 .before in
+    let s = at-on-row .before .before .before in
     let a = s .args in
     let w = c .before .before .write-row in
-    let at = c .before .before .before .before .row-at .ensures in
-    let on = c .before .before .before .before .before .before .on-row .ensures (c .before .before .before .before .before .if1 .taken) in
+    let at = at-row-at .row-at .ensures in
+    let on = at-on-row .on-row .ensures (at-if1 .if1 .taken) in
     let row = row-line (a .cells .now) (a .width) (a .height) (a .x) (a .y) (a .n) (s .pre .0 .0) (on .0, on .1) in
     rw row (rw at at (w .ensures .0), rw at at (w .ensures .1))
 
@@ -62,9 +65,10 @@ same-length-2 c = search needs
 
 returns-2 : tie.Need-returns-2
 returns-2 c =
-    let s = c .before .before .before .before .before .before .before .before .before in
+    let at-line-end = c .before .before .before .before in
+    let s = at-line-end .before .before .before .before .before in
     let p = c .before .before .put-marks in
-    let e = c .before .before .before .before .line-end in
+    let e = at-line-end .line-end in
     let whole = line-marks (seen (s .args .cells .now) (s .args .width) (s .args .height)) (s .args .x) (s .args .y) (s .args .n) (e .result) (e .ensures) in
     (p .ensures .0 ∙ ap (λ (v : List ℕ). s .args .from + length v) (sym whole), p .ensures .1 ∙ ap (sets (s .args .out .now) (s .args .from)) (sym whole))
 

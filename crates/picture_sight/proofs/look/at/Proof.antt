@@ -5,7 +5,6 @@ use borrow.Author.Tests.{lt-ltb, le-ltb}
 use Rattle.rules.specs.Base.{pick}
 use Rattle.picture_sight.specs.Seen.{seen}
 use Rattle.picture_sight.proofs.Seen.{cell-within}
-use borrow.Author.Needs.{needs}
 use Rattle.picture_sight.proofs.look.at.Statement.{statement}
 use Rattle.picture_sight.proofs.look.at.Tie as tie
 

@@ -3,7 +3,6 @@ use Prim.Native.Nat.{ℕ, _≤_, _-_}
 use mathlib.Core.Path.{_≡_, refl, sym}
 use mathlib.Core.Bool.{Bool}
 use native.Mathlib.Omega.{arith}
-use lib.ListN.{set}
 use Rattle.rules.proofs.Candidate.{group, marked}
 use Rattle.levels.specs.Filled.{filled}
 use Rattle.levels.proofs.Filled.{filled-snoc}

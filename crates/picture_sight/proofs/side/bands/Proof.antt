@@ -1,6 +1,6 @@
 -- The invariant: y is the offset of row i, small enough that sums fit, and the offsets of the rows before it are stored.
 use Prim.Native.Nat.{_+_, _*_, _≤_, _-_}
-use mathlib.Core.Path.{_≡_, refl, sym, _∙_}
+use mathlib.Core.Path.{_≡_, refl, sym}
 use native.Mathlib.Omega.{arith}
 use lib.ListN.{getD}
 use Rattle.levels.specs.Filled.{filled}

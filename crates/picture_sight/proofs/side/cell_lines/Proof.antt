@@ -2,7 +2,7 @@
 use mathlib.Core.Path.{sym, _∙_}
 use borrow.Author.Tests.{lt-ltb, le-ltb}
 use Rattle.rules.specs.Base.{pick}
-use Rattle.picture_sight.specs.Seen.{seen, boxLines}
+use Rattle.picture_sight.specs.Seen.{seen}
 use Rattle.picture_sight.proofs.Most.{cell-is}
 use borrow.Author.Needs.{needs}
 use Rattle.picture_sight.proofs.side.cell_lines.Statement.{statement}

@@ -43,16 +43,19 @@ byte-requires-3 c κs = search needs
 
 returns-4 : tie.Need-returns-4
 returns-4 c =
-    let s = c .before .before .before .before .before .before .before .before .before in
-    rw (ends (s .args .file .now) _ refl (search needs), ← (c .before .before .before .before .before .byte .ensures .0), eq-eqb _ _ (c .before .before .before .before .if2 .left), ← (c .before .before .before .byte2 .ensures .0), eq-eqb _ _ (c .before .before .if3 .left), ← (c .before .byte3 .ensures .0), ne-eqb _ _ (c .if4 .taken))
+    let at-byte = c .before .before .before .before .before in
+    let s = at-byte .before .before .before .before in
+    rw (ends (s .args .file .now) _ refl (search needs), ← (at-byte .byte .ensures .0), eq-eqb _ _ (c .before .before .before .before .if2 .left), ← (c .before .before .before .byte2 .ensures .0), eq-eqb _ _ (c .before .before .if3 .left), ← (c .before .byte3 .ensures .0), ne-eqb _ _ (c .if4 .taken))
 
 byte-requires-4 : tie.Need-byte-requires-4
 byte-requires-4 c κs = search needs
 
 returns-5 : tie.Need-returns-5
 returns-5 c =
-    let s = c .before .before .before .before .before .before .before .before .before .before in
-    rw (ends (s .args .file .now) _ refl (search needs), ← (c .before .before .before .before .before .before .byte .ensures .0), eq-eqb _ _ (c .before .before .before .before .before .if2 .left), ← (c .before .before .before .before .byte2 .ensures .0), eq-eqb _ _ (c .before .before .before .if3 .left), ← (c .before .before .byte3 .ensures .0), eq-eqb _ _ (c .before .if4 .left), ← (c .byte4 .ensures .0), and-true)
+    let at-if2 = c .before .before .before .before .before in
+    let at-byte = at-if2 .before in
+    let s = at-byte .before .before .before .before in
+    rw (ends (s .args .file .now) _ refl (search needs), ← (at-byte .byte .ensures .0), eq-eqb _ _ (at-if2 .if2 .left), ← (c .before .before .before .before .byte2 .ensures .0), eq-eqb _ _ (c .before .before .before .if3 .left), ← (c .before .before .byte3 .ensures .0), eq-eqb _ _ (c .before .if4 .left), ← (c .byte4 .ensures .0), and-true)
 
 pub ends-in-tree-spec : {M : Type 1} → statement M
 ends-in-tree-spec =

@@ -32,8 +32,10 @@ tree-fmt-text-requires c κs = search needs
 
 same-length : tie.Need-same-length
 same-length c =
-    let s = c .before .before .before .before .before .before .before .before .before .before .before .before .before .before .before .before .before in
-    front-length (s .args .file .now) (s .args .offset) (s .args .entries) (s .args .table .now) _ (s .pre .1) (c .before .before .before .before .before .before .before .before .before .before .before .words .ensures)
+    let at-tree-fmt-text = c .before .before .before .before in
+    let at-words = at-tree-fmt-text .before .before .before .before .before .before .before in
+    let s = at-words .before .before .before .before .before .before in
+    front-length (s .args .file .now) (s .args .offset) (s .args .entries) (s .args .table .now) _ (s .pre .1) (at-words .words .ensures)
 
 same-length-2 : tie.Need-same-length-2
 same-length-2 c = search needs
@@ -43,10 +45,11 @@ same-length-3 c = search needs
 
 returns : tie.Need-returns
 returns c =
-    let s = c .before .before .before .before .before .before .before .before .before .before .before .before .before .before .before .before .before in
-    let t = c .before .before .before .before in
-    let T = front (s .args .file .now) (s .args .offset) (s .args .entries) (s .args .table .now) _ (s .pre .1) (c .before .before .before .before .before .before .before .before .before .before .before .words .ensures) in
-    (rw T at (t .tree-fmt-text .ensures .0), rw T at (t .tree-fmt-text .ensures .1 .0), rw T at (t .tree-fmt-text .ensures .1 .1))
+    let at-tree-fmt-text = c .before .before .before .before in
+    let at-words = at-tree-fmt-text .before .before .before .before .before .before .before in
+    let s = at-words .before .before .before .before .before .before in
+    let T = front (s .args .file .now) (s .args .offset) (s .args .entries) (s .args .table .now) _ (s .pre .1) (at-words .words .ensures) in
+    (rw T at (at-tree-fmt-text .tree-fmt-text .ensures .0), rw T at (at-tree-fmt-text .tree-fmt-text .ensures .1 .0), rw T at (at-tree-fmt-text .tree-fmt-text .ensures .1 .1))
 
 pub draw-words-spec : {M : Type 1} → statement M
 draw-words-spec =

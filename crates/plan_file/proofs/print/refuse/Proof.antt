@@ -1,6 +1,9 @@
 -- The pieces are the refusal's line by its parts; each has room in a usize, as no number here has more than twenty digits.
 use mathlib.Core.Path.{_∙_}
+use mathlib.Core.List.{[], _∷_}
 use native.Mathlib.Omega.{arith}
+use lib.ListN.{length-append}
+use Rattle.rules.specs.Lines.{digits}
 use Rattle.rules.proofs.Digits.{digits-short}
 use Rattle.plan_file.proofs.Prints.{line-laid}
 use borrow.Author.Needs.{needs}
@@ -22,43 +25,33 @@ slice-aggregate-bytes c = search needs
 bytes-requires : tie.Need-bytes-requires
 bytes-requires c κs = search needs
 
-number-requires-2 : tie.Need-number-requires-2
-number-requires-2 c κs =
-    let n = c .before .before .before .before .before .before in
-    omega (arith, digits-short (n .before .wide .result) (omega arith), digits-short (n .second .result) (omega arith))
+ended-requires : tie.Need-ended-requires
+ended-requires c κs = let at-second = c .before .before .before .before .before .before in omega (arith, digits-short (at-second .before .wide .result) (omega arith))
 
-byte-requires : tie.Need-byte-requires
-byte-requires c κs =
-    let n = c .before .before .before .before .before .before .before .before .before .before in
-    omega (arith, digits-short (n .before .wide .result) (omega arith), digits-short (n .second .result) (omega arith))
-
-number-requires-3 : tie.Need-number-requires-3
-number-requires-3 c κs =
-    let n = c .before .before .before .before .before .before .before .before .before .before .before .before .before .before in
-    omega (arith, digits-short (n .before .wide .result) (omega arith), digits-short (n .second .result) (omega arith))
-
-byte-requires-2 : tie.Need-byte-requires-2
-byte-requires-2 c κs =
-    let n = c .before .before .before .before .before .before .before .before .before .before .before .before .before .before .before .before .before .before in
-    omega (arith, digits-short (n .before .wide .result) (omega arith), digits-short (n .second .result) (omega arith))
+ended-requires-2 : tie.Need-ended-requires-2
+ended-requires-2 c κs =
+    let at-ended = c .before .before .before in
+    let at-second = at-ended .before .before .before .before .before .before .before in
+    let x = at-second .before .wide .result in
+    omega (arith, at-ended .ended .ensures .place, length-append (digits x) (32 ∷ []), digits-short x (omega arith), digits-short (at-second .second .result) (omega arith))
 
 same-length : tie.Need-same-length
 same-length c = search needs
 
 returns : tie.Need-returns
 returns c =
-    let n = c .before .before .before .before .before .before .before .before .before .before .before .before .before .before .before .before .before .before .before .before .before in
+    let at-ended = c .before .before .before .before .before .before in
+    let at-bytes = at-ended .before .before .before .before in
+    let at-second = at-bytes .before .before .before in
     line-laid
-    (n .before .before .before .before .args .a)
-    (n .before .wide .result)
-    (n .second .result)
-    (n .before .wide .ensures ∙ n .before .before .number .ensures)
-    (n .second .ensures)
-    (c .before .before .before .before .before .before .before .before .before .before .before .before .before .before .before .before .before .before .bytes .ensures)
-    (c .before .before .before .before .before .before .before .before .before .before .before .before .before .before .number2 .ensures)
-    (c .before .before .before .before .before .before .before .before .before .before .byte .ensures)
-    (c .before .before .before .before .before .before .number3 .ensures)
-    (c .before .before .byte2 .ensures)
+    (at-second .before .before .before .before .args .a)
+    (at-second .before .wide .result)
+    (at-second .second .result)
+    (at-second .before .wide .ensures ∙ at-second .before .before .number .ensures)
+    (at-second .second .ensures)
+    (at-bytes .bytes .ensures)
+    (at-ended .ended .ensures)
+    (c .before .before .ended2 .ensures)
     (omega arith)
     (omega arith)
     (search needs)
@@ -72,9 +65,7 @@ refuse-spec =
     second-requires
     slice-aggregate-bytes
     bytes-requires
-    number-requires-2
-    byte-requires
-    number-requires-3
-    byte-requires-2
+    ended-requires
+    ended-requires-2
     same-length
     returns)

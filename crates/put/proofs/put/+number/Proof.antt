@@ -117,8 +117,9 @@ number-returns-2 : (t : ℕ) → number-lts.Need-returns-2 (
   number.Post,
 ) (number-at t) number.Post
 number-returns-2 t c =
-    let s = c .before .before .before .before .before .before .before .before .before .before in
-    rw (digits-more (s .args .n) (search needs)) (then (c .before .before .before .before .before .before .number .ensures) (c .before .before .byte2 .ensures))
+    let at-number = c .before .before .before .before .before .before in
+    let s = at-number .before .before .before .before in
+    rw (digits-more (s .args .n) (search needs)) (then (at-number .number .ensures) (c .before .before .byte2 .ensures))
 
 pub +number-spec : {M : Type 1} → statement M
 +number-spec = close μ-number λ t. number-lts.spec (

@@ -33,8 +33,9 @@ loop-less c = search needs
 
 loop-again : tie.Need-loop-again Inv-loop μ-loop
 loop-again c =
-    let l = c .before .before .before .before .before .before .loop in
-    let s = c .before .before .before .before .before .before .before .before .before .args .s .now in (
+    let at-loop = c .before .before .before .before .before .before in
+    let l = at-loop .loop in
+    let s = at-loop .before .before .before .args .s .now in (
       search needs,
       step (getD s (l .i) 0 ∷ []) (drop (l .i + 1) s) (l .inv .1) (one s (l .i) (search needs)) (c .before .before .byte .ensures),
     )

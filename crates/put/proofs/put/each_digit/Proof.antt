@@ -39,8 +39,9 @@ loop-less c = search needs
 
 loop-again : tie.Need-loop-again Inv-loop μ-loop
 loop-again c =
-    let l = c .before .before .before .before .before .before .loop in
-    let w = digits (c .before .before .before .before .before .before .before .before .before .args .n) in
+    let at-loop = c .before .before .before .before .before .before in
+    let l = at-loop .loop in
+    let w = digits (at-loop .before .before .before .args .n) in
     let p = rw (c .before .before .before .digit .ensures) at (c .before .before .byte .ensures) in (
       search needs,
       search needs,

@@ -5,7 +5,6 @@ use native.Mathlib.Omega.{arith}
 use lib.ListN.{length}
 use Rattle.rules.specs.Look.{lenOf, marksIn}
 use Rattle.levels.specs.Shown.{planShown}
-use Rattle.row_strips.specs.Row.{seenTo}
 use Rattle.row_strips.proofs.Made.{made}
 use Rattle.row_cells.proofs.Columns.{node-few, asks}
 use Rattle.row_cells.proofs.Passed.{Across, none-yet, column-more, all-columns}
@@ -14,12 +13,11 @@ use Rattle.row_cells.proofs.across.cells_row.Statement.{statement}
 use Rattle.row_cells.proofs.across.cells_row.Tie as tie
 
 abbrev Inv-loop : tie.InvT-loop
-Inv-loop row₀ y style b table titles standin above here next on lines longest cx ncols from₀ n over₀ j₀ row from over j =
-    (n ≡ ncols) × (ncols ≤ 256) × Across (lenOf (style .measure)) (marksIn (style .marks)) (planShown (style .given) standin table titles) lines above here (b .middle) ncols y (length row₀) j over row from
+Inv-loop row₀ at table titles standin here next on lines longest cx from₀ n j₀ row from j =
+    (n ≡ at .ncols) × (at .ncols ≤ 256) × Across (lenOf (at .style .measure)) (marksIn (at .style .marks)) (planShown (at .style .given) standin table titles) lines here (at .band .middle) (at .ncols) (at .y) (length row₀) j row from
 
 abbrev μ-loop : tie.MeasureT-loop
-μ-loop row₀ y style b table titles standin above here next on lines longest cx ncols from₀ n over₀ j₀ row from over j =
-    ncols - j
+μ-loop row₀ at table titles standin here next on lines longest cx from₀ n j₀ row from j = at .ncols - j
 
 wide-requires : tie.Need-wide-requires Inv-loop μ-loop
 wide-requires c κs = search needs
@@ -28,55 +26,25 @@ loop-holds : tie.Need-loop-holds Inv-loop μ-loop
 loop-holds c =
     let s = c .before .before .before .before .before in
     let a = s .pre .0 in
-    (c .wide .ensures, made (a .ready .known) .columns-few, none-yet (a .ready .known) (a .i) _ (s .args .y) (a .within) (a .low) (unfold seenTo in refl) refl (s .pre .1 .0) (s .pre .1 .1))
+    (c .wide .ensures, made (a .ready .known) .columns-few, none-yet (a .ready .known) (a .i) _ (s .args .at .y) (a .within) (a .low) refl (s .pre .1 .0) (s .pre .1 .1))
 
-mul-over : tie.Need-mul-over Inv-loop μ-loop
-mul-over c = search needs
-
-element-copy-out-over : tie.Need-element-copy-out-over Inv-loop μ-loop
-element-copy-out-over c = search needs
-
-mul-one-cell : tie.Need-mul-one-cell Inv-loop μ-loop
-mul-one-cell c = search needs
-
-element-copy-out-one-cell : tie.Need-element-copy-out-one-cell Inv-loop μ-loop
-element-copy-out-one-cell c = search needs
-
-cast-one-cell : tie.Need-cast-one-cell Inv-loop μ-loop
-cast-one-cell c =
-    let l = c .before .before .before .before in
+joint-at-requires : tie.Need-joint-at-requires Inv-loop μ-loop
+joint-at-requires c κs =
+    let l = c .before in
     let s = l .before .before .before .before .before .before in
     let a = s .pre .0 in
-    record { fits = omega (arith, node-few (a .ready .known) (a .i) _ (s .args .y) (a .within) (l .loop .j) (omega arith)) }
-
-mul-one-cell-2 : tie.Need-mul-one-cell-2 Inv-loop μ-loop
-mul-one-cell-2 c = search needs
-
-element-copy-out-one-cell-2 : tie.Need-element-copy-out-one-cell-2 Inv-loop μ-loop
-element-copy-out-one-cell-2 c = search needs
-
-mul-one-cell-3 : tie.Need-mul-one-cell-3 Inv-loop μ-loop
-mul-one-cell-3 c = search needs
-
-element-copy-out-one-cell-3 : tie.Need-element-copy-out-one-cell-3 Inv-loop μ-loop
-element-copy-out-one-cell-3 c = search needs
-
-mul-one-cell-4 : tie.Need-mul-one-cell-4 Inv-loop μ-loop
-mul-one-cell-4 c = search needs
-
-element-copy-out-one-cell-4 : tie.Need-element-copy-out-one-cell-4 Inv-loop μ-loop
-element-copy-out-one-cell-4 c = search needs
+    (omega arith, node-few (a .ready .known) (a .i) _ (s .args .at .y) (a .within) (l .loop .j) (omega arith))
 
 one-cell-requires : tie.Need-one-cell-requires Inv-loop μ-loop
 one-cell-requires c κs =
-    let l = c .before .before .before .before .before .before .before .before in
+    let q = c .before .before in
+    let l = q .before .before in
     let s = l .before .before .before .before .before .before in
     let a = s .pre .0 in
-    let n = l .loop .inv .0 in
-    let t = c .before .before .before .before .before .before .before .loop-test in
-    let b : l .loop .j < s .args .ncols = omega arith in (
-      (omega arith, node-few (a .ready .known) (a .i) _ (s .args .y) (a .within) (l .loop .j) b),
-      λ z. asks (a .ready) (a .i) _ (s .args .y) (a .within) (l .loop .j) b z _ (l .loop .inv .2 .ahead (l .loop .j) (omega arith) b),
+    let b : l .loop .j < s .args .at .ncols = omega (arith, q .before .loop-test .taken, l .loop .inv .0) in
+    rw (q .joint-at .ensures) (
+      (omega (arith, l .loop .inv .1), node-few (a .ready .known) (a .i) _ (s .args .at .y) (a .within) (l .loop .j) b),
+      λ z. asks (a .ready) (a .i) _ (s .args .at .y) (a .within) (l .loop .j) b z _ (l .loop .inv .2 .ahead (l .loop .j) (omega arith) b),
     )
 
 add-j : tie.Need-add-j Inv-loop μ-loop
@@ -87,17 +55,17 @@ loop-less c = search needs
 
 loop-again : tie.Need-loop-again Inv-loop μ-loop
 loop-again c =
-    let o = c .before .before .one-cell in
-    let i = c .before .before .before in
-    let l = i .before .before .before .before .before .before .before .before in
+    let at-one-cell = c .before .before in
+    let q = at-one-cell .before .before .before in
+    let l = q .before .before in
     let s = l .before .before .before .before .before .before in
     let a = s .pre .0 in
-    let n = l .loop .inv .0 in
-    let t = i .before .before .before .before .before .before .before .loop-test in
-    let b : l .loop .j < s .args .ncols = omega arith in (
-      n,
+    let o = at-one-cell .one-cell in
+    let e = rw (q .joint-at .ensures) at (o .ensures) in
+    let b : l .loop .j < s .args .at .ncols = omega (arith, q .before .loop-test .taken, l .loop .inv .0) in (
+      l .loop .inv .0,
       l .loop .inv .1,
-      column-more (a .ready .known) (a .i) _ (s .args .y) (a .within) (a .low) (l .loop .j) b (l .loop .inv .2) refl (o .kept .0) (o .ensures .0) (o .ensures .1),
+      column-more (a .ready .known) (a .i) _ (s .args .at .y) (a .within) (a .low) (l .loop .j) b (l .loop .inv .2) (a .over-is (l .loop .j) b) (o .kept .0) (e .0) (e .1),
     )
 
 same-length : tie.Need-same-length Inv-loop μ-loop
@@ -108,7 +76,7 @@ returns c =
     let l = c .before in
     let s = l .before .before .before .before .before .before in
     let a = s .pre .0 in
-    all-columns (a .ready .known) (a .i) _ (s .args .y) (a .within) (a .low) (omega arith) (l .loop .inv .2)
+    all-columns (a .ready .known) (a .i) _ (s .args .at .y) (a .within) (a .low) (omega arith) (l .loop .inv .2)
 
 pub cells-row-spec : {M : Type 1} → statement M
 cells-row-spec =
@@ -118,17 +86,7 @@ cells-row-spec =
     μ-loop
     wide-requires
     loop-holds
-    mul-over
-    element-copy-out-over
-    mul-one-cell
-    element-copy-out-one-cell
-    cast-one-cell
-    mul-one-cell-2
-    element-copy-out-one-cell-2
-    mul-one-cell-3
-    element-copy-out-one-cell-3
-    mul-one-cell-4
-    element-copy-out-one-cell-4
+    joint-at-requires
     one-cell-requires
     add-j
     loop-less

@@ -49,7 +49,7 @@ shown-title-requires : tie.Need-shown-title-requires
 shown-title-requires c κs =
     let s = c .before .before .before .before .before .before .before .before in
     let a = s .pre .1 (λ z. omega arith) in
-    (omega (arith, a .node-in, a .showable .table .whole), title-fits (a .showable .table) (s .args .k - 1) (omega (arith, a .node-in)))
+    (omega (arith, a .node-in, a .showable .table .whole), title-fits (a .showable .table) (s .args .q .k - 1) (omega (arith, a .node-in)))
 
 mul-spot-row : tie.Need-mul-spot-row
 mul-spot-row c = search needs
@@ -63,12 +63,12 @@ spot-row-requires c κs =
     let at-spot = t .before in
     let s = at-spot .before .before .before .before .before .before .before .before in
     let a = s .pre .1 (λ z. omega arith) in
-    let i : s .args .k - 1 < count (s .args .table .now) = omega (arith, a .node-in) in
+    let i : s .args .q .k - 1 < count (s .args .table .now) = omega (arith, a .node-in) in
     let g = t .shown-title .ensures in
     let e = t .before .spot-of .ensures in (
       rw e (sides _ _ _ _ _ _ _ _ (a .left-room)),
-      rw g (shown-short (a .showable) (s .args .k - 1) i),
-      line-asked (marksIn (s .args .style .marks)) _ _ _ _ (s .args .y) e (g ∙ sym (title-shown (a .showable) (s .args .k - 1) i)) (getD (s .args .from .now) (s .args .j) 0) (a .found),
+      rw g (shown-short (a .showable) (s .args .q .k - 1) i),
+      line-asked (marksIn (s .args .at .style .marks)) _ _ _ _ (s .args .at .y) e (g ∙ sym (title-shown (a .showable) (s .args .q .k - 1) i)) (getD (s .args .from .now) (s .args .q .j) 0) (a .found),
     )
 
 mul-from : tie.Need-mul-from
@@ -87,9 +87,9 @@ returns-2 c =
     let at-spot = t .before in
     let s = at-spot .before .before .before .before .before .before .before .before in
     let a = s .pre .1 (λ z. omega arith) in
-    let i : s .args .k - 1 < count (s .args .table .now) = omega (arith, a .node-in) in (
+    let i : s .args .q .k - 1 < count (s .args .table .now) = omega (arith, a .node-in) in (
       (λ e. absurd (omega arith)),
-      (λ f. cell-done (marksIn (s .args .style .marks)) _ _ _ _ (s .args .y) (at-spot .spot-of .ensures) (t .shown-title .ensures ∙ sym (title-shown (a .showable) (s .args .k - 1) i)) (s .args .j) _ (s .args .row .now) (s .args .from .now) _ (r .spot-row .ensures .0) (r .spot-row .ensures .1)),
+      (λ f. cell-done (marksIn (s .args .at .style .marks)) _ _ _ _ (s .args .at .y) (at-spot .spot-of .ensures) (t .shown-title .ensures ∙ sym (title-shown (a .showable) (s .args .q .k - 1) i)) (s .args .q .j) _ (s .args .row .now) (s .args .from .now) _ (r .spot-row .ensures .0) (r .spot-row .ensures .1)),
     )
 
 pub one-cell-spec : {M : Type 1} → statement M

@@ -1,5 +1,4 @@
 -- The flag decides.
-use native.Mathlib.Omega.{arith}
 use Rattle.rules.specs.Base.{pick}
 use borrow.Author.Needs.{needs}
 use Rattle.row_walk.proofs.emit.emit.Statement.{statement}

@@ -6,23 +6,25 @@ use Rattle.row_walk.proofs.whole.walk.Statement.{statement}
 use Rattle.row_walk.proofs.whole.walk.Tie as tie
 
 index-digits-requires : tie.Need-index-digits-requires
-index-digits-requires c κs = digits-ask (c .before .before .before .before .before .pre .0 .known)
+index-digits-requires c κs =
+    let s = c .before .before .before .before .before in
+    digits-ask (s .pre .ready .known)
 
 heads-requires : tie.Need-heads-requires
 heads-requires c κs =
     let x = c .before .before in
     let s = x .before .before .before .before .before .before in
-    let q = s .pre .0 in
-    ((rw (s .pre .1 .0) (outside q), digits-are (q .known) (x .index-digits .result) (x .index-digits .ensures)), rw (s .pre .1 .0) (s .pre .1 .1))
+    let q = s .pre .ready in
+    ((rw (s .pre .wide) (outside q), digits-are (q .known) (x .index-digits .result) (x .index-digits .ensures)), rw (s .pre .wide) (s .pre .lent))
 
 bands-requires : tie.Need-bands-requires
 bands-requires c κs =
     let h = c .before .before .before .before .before .before in
     let x = h .before .before .before in
     let s = x .before .before .before .before .before .before in
-    let q = s .pre .0 in
+    let q = s .pre .ready in
     let k = h .heads .kept in
-    ((q, digits-are (q .known) (x .index-digits .result) (x .index-digits .ensures)), ((k .0 ∙ s .pre .1 .0, rw (k .1 .1 .1 .1 .1 .1 .1 .1 .1 .0) (s .pre .1 .1)), heads-end _ _ _ _ 3 _ _ _ (h .heads .ensures)))
+    (record { ready = q; wide = k .0 ∙ s .pre .wide; lent = rw (k .1 .1 .1 .1 .1 .1 .1 .1 .1 .0) (s .pre .lent) }, (digits-are (q .known) (x .index-digits .result) (x .index-digits .ensures), heads-end _ _ _ _ 3 _ _ _ (h .heads .ensures)))
 
 same-length : tie.Need-same-length
 same-length c = search needs
@@ -34,9 +36,9 @@ returns : tie.Need-returns
 returns c =
     let b = c .before .before .before .before in
     let h = b .before .before .before .before .before .before .before in
-    let i = h .before in
-    let s = i .before .before .before .before .before .before .before .before in
-    (whole-text _ _ _ _ _ _ _ _ _ _ (high (s .pre .0 .known) .0) (h .heads .ensures) (b .bands .ensures .0), b .bands .ensures .1)
+    let at-index-digits = h .before .before .before in
+    let s = at-index-digits .before .before .before .before .before .before in
+    (whole-text _ _ _ _ _ _ _ _ _ _ (high (s .pre .ready .known) .0) (h .heads .ensures) (b .bands .ensures .0), b .bands .ensures .1)
 
 pub walk-spec : {M : Type 1} → statement M
 walk-spec =

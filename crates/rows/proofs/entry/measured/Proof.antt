@@ -1,18 +1,16 @@
--- Rows, digits, columns, the canvas' size, centres: each answer of tree_view is the rules', for the measures that were filled.
-use mathlib.Core.Path.{refl, ap, _∙_}
+-- Rows, digits, columns, the canvas' size: each answer of tree_view is the rules', for the measures that were filled.
+use mathlib.Core.Path.{refl, ap}
 use native.Mathlib.Omega.{arith}
 use lib.ListN.{replicate}
 use Rattle.rules.specs.Look.{lenOf}
 use Rattle.text.proofs.Counted.{len-most}
 use Rattle.rules.specs.Levels.{view}
 use Rattle.levels.specs.Shown.{planShown}
-use Rattle.levels.specs.Filled.{filled}
 use Rattle.levels.proofs.Shown.{shows, small}
 use Rattle.tree_view.specs.declared.heights.Rows.{Rows}
-use Rattle.tree_view.specs.Sizes.{sumAt}
 use Rattle.tree_view.proofs.Limits.{d-le, columns-le, rows-le}
 use Rattle.tree_view.proofs.Ruled.{column-offset-at}
-use Rattle.tree_view.proofs.Whole.{count-view, rows-view, digits-asks, digits-ruled, columns-ask, rows-ask, width-asks, width-answers, height-asks, height-answers, rows-small, row-centers-ask}
+use Rattle.tree_view.proofs.Whole.{count-view, rows-view, digits-asks, digits-ruled, columns-ask, rows-ask, width-asks, width-answers, height-asks, height-answers}
 use Rattle.tree_format.proofs.Measures.{columns-answered, rows-answered}
 use borrow.Author.Needs.{needs}
 use Rattle.rows.proofs.entry.measured.Statement.{statement}
@@ -91,27 +89,9 @@ canvas-height-requires c κs =
     let rs = rows-answered (len-most (s .args .style .measure)) a m n (o .rows .result) (t .tree-rows .result) (s .pre .0 .1) (o .rows .ensures) (t .tree-rows .ensures) in
     height-asks a n (s .pre .0 .1) (t .tree-rows .result) (o .rows .result) rs r
 
-row-centers-requires : tie.Need-row-centers-requires
-row-centers-requires c κs =
-    let h = c .before .before .before .before in
-    let w = h .before .before .before .before in
-    let t = w .before .before .before .before in
-    let u = t .before in
-    let i = u .before in
-    let o = i .before in
-    let s = o .before .before .before .before .before .before in
-    let a = shows (s .pre .0 .0) in
-    let n = s .args .nodes in
-    let m = s .pre .1 .0 in
-    let r = rows-view a n (s .pre .0 .1) (o .rows .result) (o .rows .ensures) in
-    let rs = rows-answered (len-most (s .args .style .measure)) a m n (o .rows .result) (t .tree-rows .result) (s .pre .0 .1) (o .rows .ensures) (t .tree-rows .ensures) in
-    let r′ = t .tree-rows .result in
-    (rows-small a n (s .pre .0 .1) r′ (o .rows .result) rs r .1, row-centers-ask a n (s .pre .0 .1) r′ (o .rows .result) rs r)
-
 sized-requires : tie.Need-sized-requires
 sized-requires c κs =
-    let y = c .before .before .before .before .before .before .before .before in
-    let h = y .before .before .before .before .before in
+    let h = c .before .before .before .before .before .before .before in
     let w = h .before .before .before .before in
     let t = w .before .before .before .before in
     let u = t .before in
@@ -132,14 +112,12 @@ sized-requires c κs =
             record {
               columns-are = cs .centres;
               count-is = cs .counted;
-              rows-are = y .row-centers .ensures ∙ ap (λ (q : Rows). filled (sumAt (q .offset) (q .center)) 0 (o .rows .result) (replicate 32 0)) rs;
               offset-is = ap (λ (q : Rows). q .offset) rs;
               row-count-is = r;
-            },
-            record {
               width-is = width-answers a n (s .pre .0 .1) (lenOf (s .args .style .measure)) (len-most (s .args .style .measure)) cs (w .canvas-width .result) (s .pre .0 .2) (w .canvas-width .ensures);
               height-is = height-answers a n (s .pre .0 .1) (t .tree-rows .result) (o .rows .result) rs r (h .canvas-height .result) (h .canvas-height .ensures);
             },
+            refl,
           ),
           λ j b. column-offset-at (view (planShown (s .args .style .given) (s .args .standin .now) (s .args .table .now) (s .args .titles .now))) cs (columns-le (planShown (s .args .style .given) (s .args .standin .now) (s .args .table .now) (s .args .titles .now)) (small a)) j (omega (arith, cs .counted)),
         ),
@@ -166,7 +144,6 @@ measured-spec =
     tree-rows-requires
     canvas-width-requires
     canvas-height-requires
-    row-centers-requires
     sized-requires
     same-length
     same-length-2

@@ -1,6 +1,6 @@
 -- What is needed beyond the room is the text's length, so it is told, or the text is stored; either way the last row was made last.
 use mathlib.Core.Path.{_∙_}
-use Prim.Native.Nat.{_<_}
+use Prim.Native.Nat.{_≤_, _<_}
 use native.Mathlib.Omega.{arith}
 use lib.ListN.{length}
 use Rattle.tree_format.proofs.Drawn.{short-of}
@@ -11,7 +11,9 @@ use Rattle.rows.proofs.entry.written.Statement.{statement}
 use Rattle.rows.proofs.entry.written.Tie as tie
 
 counted-requires : tie.Need-counted-requires
-counted-requires c κs = c .before .before .before .before .before .before .before .pre
+counted-requires c κs =
+    let s = c .before .before .before .before .before .before .before in
+    s .pre
 
 undrawn-requires : tie.Need-undrawn-requires
 undrawn-requires c κs = search needs
@@ -24,20 +26,21 @@ same-length-2 c = search needs
 
 returns : tie.Need-returns
 returns c =
-    let k = c .before .before .before .before .before .before in
+    let t = c .before in
+    let k = t .before .before .before .before .before .before in
     let s = k .before .before .before .before .before .before .before .before in
     let n = k .counted .ensures in
-    let l = k .counted .kept .1 .1 .1 .1 .1 .1 .1 .1 .1 .1 .1 .1 .1 .1 .1 .1 .0 in
-    let b : length (s .args .out .now) < k .counted .result = omega (arith, l, c .before .if1 .taken) in
+    let b : length (s .args .out .now) < k .counted .result = omega (arith, s .pre .1 .0 .2, t .if1 .taken) in
     (rw (n .1 .0) (short-of (n .0 .told b) b (c .undrawn .ensures)), n .1 .1 b)
 
 stored-requires : tie.Need-stored-requires
 stored-requires c κs =
     let t = c .before .before in
-    let k = t .before .before .before .before .before in
+    let k = t .before .before .before .before .before .before in
     let s = k .before .before .before .before .before .before .before .before in
-    let l = k .counted .kept .1 .1 .1 .1 .1 .1 .1 .1 .1 .1 .1 .1 .1 .1 .1 .1 .0 in
-    (s .pre .0, (k .counted .kept .0 ∙ s .pre .1 .0 .0, lent-bytes (s .pre .0) (s .pre .1 .0 .1) (omega (arith, l, k .counted .ensures .0 .fits (omega (arith, l, t .if1 .left))))))
+    let h = k .counted .kept in
+    let b : k .counted .result ≤ length (s .args .out .now) = omega (arith, s .pre .1 .0 .2, t .if1 .left) in
+    (s .pre .0, (h .0 ∙ s .pre .1 .0 .0, lent-bytes (s .pre .0) (s .pre .1 .0 .1) (omega (arith, h .1 .1 .1 .1 .1 .1 .1 .1 .1 .1 .1 .0, k .counted .ensures .0 .fits b))))
 
 same-length-3 : tie.Need-same-length-3
 same-length-3 c = search needs
@@ -49,10 +52,11 @@ returns-2 : tie.Need-returns-2
 returns-2 c =
     let d = c .before .before .before .before in
     let t = d .before .before .before in
-    let k = t .before .before .before .before .before in
+    let k = t .before .before .before .before .before .before in
+    let s = k .before .before .before .before .before .before .before .before in
     let n = k .counted .ensures in
-    let l = k .counted .kept .1 .1 .1 .1 .1 .1 .1 .1 .1 .1 .1 .1 .1 .1 .1 .1 .0 in
-    (stored-written (n .1 .0) (n .0 .fits (omega (arith, l, t .if1 .left))) (d .stored .ensures .0), d .stored .ensures .1)
+    let b : k .counted .result ≤ length (s .args .out .now) = omega (arith, s .pre .1 .0 .2, t .if1 .left) in
+    (stored-written (n .1 .0) (n .0 .fits b) (d .stored .ensures .0), d .stored .ensures .1)
 
 pub written-spec : {M : Type 1} → statement M
 written-spec =

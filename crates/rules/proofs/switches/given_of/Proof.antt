@@ -1,5 +1,4 @@
 -- Each return is the switch as it stands.
-use borrow.Author.Needs.{needs}
 use borrow.Author.Tests.{eq-eqb, ne-eqb}
 use Rattle.rules.specs.Base.{pick}
 use Rattle.rules.specs.Switches.{givenOf}

@@ -1,5 +1,4 @@
 -- Each return is the switch as it stands.
-use borrow.Author.Needs.{needs}
 use borrow.Author.Tests.{eq-eqb, ne-eqb}
 use Prim.Native.Nat.{_%_}
 use Rattle.rules.specs.Base.{pick}

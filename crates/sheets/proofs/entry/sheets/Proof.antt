@@ -21,8 +21,8 @@ use Rattle.sheets.proofs.entry.sheets.Tie as tie
 hollow-requires : tie.Need-hollow-requires
 hollow-requires c κs = search needs
 
-unwritten-requires : tie.Need-unwritten-requires
-unwritten-requires c κs = search needs
+undrawn-requires : tie.Need-undrawn-requires
+undrawn-requires c κs = search needs
 
 returns : tie.Need-returns
 returns c =
@@ -30,7 +30,7 @@ returns c =
     let a = e .before .before .before .before .before .before .args in
     let z = no-sheet (lookOf (a .measure) (a .profile)) (a .width) (a .height) (standinOf (a .given) (a .standin .now)) (a .table .now) (a .titles .now) (a .canvas .now) (a .out .now)
     (sym (e .hollow .ensures) ∙ (search needs)) in
-    (c .unwritten .ensures ∙ z .answered, (z .canvas-left, z .out-left))
+    (c .undrawn .ensures ∙ z .answered, (z .canvas-left, z .out-left))
 
 paint-requires : tie.Need-paint-requires
 paint-requires c κs = search needs
@@ -115,7 +115,7 @@ sheets-spec =
     tie.close
     (tie.spec
     hollow-requires
-    unwritten-requires
+    undrawn-requires
     returns
     paint-requires
     done-requires

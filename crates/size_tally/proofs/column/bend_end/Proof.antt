@@ -1,7 +1,6 @@
 -- The two choices are the definition's.
 use native.Mathlib.Omega.{arith}
-use mathlib.Core.Path.{refl, ap, sym, _∙_}
-use Rattle.rules.specs.Base.{pick}
+use mathlib.Core.Path.{_∙_}
 use Rattle.size_laws.specs.Columns.{bendEnd}
 use borrow.Author.Needs.{needs}
 use Rattle.size_tally.proofs.column.bend_end.Statement.{statement}

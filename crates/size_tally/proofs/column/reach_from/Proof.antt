@@ -1,7 +1,6 @@
 -- Either way it is the definition's.
 use native.Mathlib.Omega.{arith}
 use Rattle.rules.specs.Base.{pick}
-use borrow.Author.Needs.{needs}
 use Rattle.size_tally.proofs.column.reach_from.Statement.{statement}
 use Rattle.size_tally.proofs.column.reach_from.Tie as tie
 

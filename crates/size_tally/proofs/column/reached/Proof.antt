@@ -1,7 +1,6 @@
 -- The ends above and below are added.
-use mathlib.Core.Path.{refl, ap, sym, _∙_}
+use mathlib.Core.Path.{_∙_}
 use native.Mathlib.Omega.{arith}
-use Rattle.rules.specs.Base.{pick}
 use Rattle.size_laws.specs.Columns.{reach}
 use Rattle.size_tally.proofs.Small.{least-few, most-few}
 use borrow.Author.Needs.{needs}

@@ -1,9 +1,7 @@
 -- Only a cell reaches any row.
-use mathlib.Core.Path.{refl, ap, sym, _∙_}
+use mathlib.Core.Path.{_∙_}
 use native.Mathlib.Omega.{arith}
 use Rattle.rules.specs.Base.{pick}
-use Rattle.size_laws.specs.Columns.{reach}
-use borrow.Author.Needs.{needs}
 use Rattle.size_tally.proofs.column.reached_by.Statement.{statement}
 use Rattle.size_tally.proofs.column.reached_by.Tie as tie
 

@@ -1,7 +1,6 @@
 -- Each part of the tally is the definition's.
-use mathlib.Core.Path.{refl, ap, sym, _∙_}
+use mathlib.Core.Path.{_∙_}
 use native.Mathlib.Omega.{arith}
-use Rattle.rules.specs.Base.{pick}
 use Rattle.size_laws.specs.Columns.{taken, fieldMore}
 use borrow.Author.Needs.{needs}
 use Rattle.size_tally.proofs.column.take.Statement.{statement}

@@ -1,7 +1,6 @@
 -- Either way the answer is one of the two.
 use native.Mathlib.Omega.{arith}
 use Rattle.rules.specs.Base.{pick}
-use borrow.Author.Needs.{needs}
 use Rattle.size_tally.proofs.number.choose.Statement.{statement}
 use Rattle.size_tally.proofs.number.choose.Tie as tie
 

@@ -3,7 +3,6 @@ use native.Mathlib.Omega.{arith}
 use borrow.Author.Tests.{eq-eqb, ne-eqb}
 use Rattle.rules.specs.Base.{pick}
 use Rattle.size_laws.specs.Columns.{orElse}
-use borrow.Author.Needs.{needs}
 use Rattle.size_tally.proofs.number.or_else.Statement.{statement}
 use Rattle.size_tally.proofs.number.or_else.Tie as tie
 

@@ -1,6 +1,5 @@
 -- Each part is read off.
-use native.Mathlib.Omega.{arith}
-use mathlib.Core.Path.{refl, ap, sym, _∙_}
+use mathlib.Core.Path.{_∙_}
 use borrow.Author.Needs.{needs}
 use Rattle.text_size.proofs.across.joint_at.Statement.{statement}
 use Rattle.text_size.proofs.across.joint_at.Tie as tie

@@ -1,9 +1,9 @@
 -- Of valid bytes each letter has one that begins it, so the others are left.
 use native.Mathlib.Omega.{arith}
-use mathlib.Core.Path.{_≡_, refl, ap, sym, _∙_}
+use mathlib.Core.Path.{_≡_, _∙_}
 use Rattle.rules.specs.Base.{pick}
 use Prim.Native.Nat.{_-_}
-use borrow.Author.Tests.{eq-eqb, ne-eqb}
+use borrow.Author.Tests.{eq-eqb}
 use Rattle.levels.proofs.Accepted.{title-fits}
 use Rattle.size_laws.specs.Size.{ownOf}
 use Rattle.text_size.proofs.Columns.{letters}

@@ -1,6 +1,6 @@
 -- Each turn adds one band, and the arrays hold the cells of the row above the next and of the next.
 use native.Mathlib.Omega.{arith}
-use mathlib.Core.Path.{_≡_, refl, ap, sym, _∙_}
+use mathlib.Core.Path.{_≡_, refl, _∙_}
 use Prim.Native.Nat.{_+_, _-_}
 use Rattle.rules.specs.Levels.{view}
 use Rattle.rules.specs.Look.{lenOf, marksIn}
@@ -14,12 +14,12 @@ use Rattle.text_size.proofs.whole.bands.Statement.{statement}
 use Rattle.text_size.proofs.whole.bands.Tie as tie
 
 abbrev Inv-loop : tie.InvT-loop
-Inv-loop n style table titles standin column lines longest cx xs cy ys above₀ here₀ next₀ on₀ e sum₀ i₀ above here next on sum i =
-    Upto (λ k. rowsBytes (lenOf (style .measure)) (marksIn (style .marks)) (planShown (style .given) standin table titles) (rowFrom (view (planShown (style .given) standin table titles)) k) (rowFrom (view (planShown (style .given) standin table titles)) (k + 1)))
+Inv-loop n table titles standin column lines longest cx xs ys above₀ here₀ next₀ on₀ e sum₀ i₀ above here next on sum i =
+    Upto (λ k. rowsBytes (lenOf (n .style .measure)) (marksIn (n .style .marks)) (planShown (n .style .given) standin table titles) (rowFrom (view (planShown (n .style .given) standin table titles)) k) (rowFrom (view (planShown (n .style .given) standin table titles)) (k + 1)))
     table column lines (n .nodes) (n .nrows) i sum above here on
 
 abbrev μ-loop : tie.MeasureT-loop
-μ-loop n style table titles standin column lines longest cx xs cy ys above₀ here₀ next₀ on₀ e sum₀ i₀ above here next on sum i =
+μ-loop n table titles standin column lines longest cx xs ys above₀ here₀ next₀ on₀ e sum₀ i₀ above here next on sum i =
     n .nrows - i
 
 mark-more-requires : tie.Need-mark-more-requires Inv-loop μ-loop
@@ -49,8 +49,7 @@ place-of-requires c κs =
     let t = c .before .before .before .before .before .before in
     let l = t .before .before in
     let s = l .before .before .before .before .before .before .before in
-    let m = made (s .pre .known) in
-    ((omega (arith, t .if1 .taken), m .rows-few, m .height-few), m .gaps (l .loop .i))
+    made (s .pre .known) .bands (l .loop .i) (omega (arith, t .if1 .taken))
 
 one-band-requires : tie.Need-one-band-requires Inv-loop μ-loop
 one-band-requires c κs =

@@ -1,6 +1,5 @@
 -- The band is the row's.
-use native.Mathlib.Omega.{arith}
-use mathlib.Core.Path.{_≡_, refl, ap, sym, _∙_}
+use mathlib.Core.Path.{_≡_, _∙_}
 use borrow.Author.Needs.{needs}
 use Rattle.text_size.proofs.whole.place_of.Statement.{statement}
 use Rattle.text_size.proofs.whole.place_of.Tie as tie

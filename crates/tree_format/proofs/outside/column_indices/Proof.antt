@@ -64,15 +64,18 @@ loop-less c = search needs
 
 loop-again : tie.Need-loop-again Inv-loop μ-loop
 loop-again c =
-    let i = c .before .before in
-    let l = i .before .before .before .before .before .before .before .loop in
-    let a = i .before .before .before .before .before .before .before .before .before .args in
-    let half = i .before .before .before .before .half-up .ensures ∙ ap halfUp (i .before .before .before .before .before .digits .ensures) in (
+    let at-index = c .before .before in
+    let at-half-up = at-index .before .before .before .before in
+    let at-digits = at-half-up .before in
+    let at-loop = at-digits .before .before in
+    let l = at-loop .loop in
+    let a = at-loop .before .before .args in
+    let half = at-half-up .half-up .ensures ∙ ap halfUp (at-digits .digits .ensures) in (
       search needs,
       search needs,
       one-more (a .size .width) (a .size .height) (columnIndexAt (a .cx .now)) (a .cells .now) (search needs)
-          (l .j) (l .cells) (i .index .last .0) (l .inv .2)
-          (rw (half, i .before .before .wide .ensures) at (i .index .ensures)),
+          (l .j) (l .cells) (at-index .index .last .0) (l .inv .2)
+          (rw (half, at-index .before .before .wide .ensures) at (at-index .index .ensures)),
     )
 
 same-length : tie.Need-same-length Inv-loop μ-loop

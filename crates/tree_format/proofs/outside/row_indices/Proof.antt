@@ -55,13 +55,17 @@ loop-less c = search needs
 
 loop-again : tie.Need-loop-again Inv-loop μ-loop
 loop-again c =
-    let l = c .before .before .before .before .before .before .before .before .loop in
-    let a = c .before .before .before .before .before .before .before .before .before .before .args in (
+    let at-index = c .before .before in
+    let at-wide = at-index .before .before in
+    let at-digits = at-wide .before in
+    let at-loop = at-digits .before .before .before in
+    let l = at-loop .loop in
+    let a = at-loop .before .before .args in (
       search needs,
       search needs,
       one-more (a .size .width) (a .size .height) (rowIndexAt (a .cy .now) (a .d)) (a .cells .now) (search needs)
-          (l .i) (l .cells) (c .before .before .index .last .0) (l .inv .2)
-          (rw (c .before .before .before .before .before .digits .ensures, c .before .before .before .before .wide .ensures) at (c .before .before .index .ensures)),
+          (l .i) (l .cells) (at-index .index .last .0) (l .inv .2)
+          (rw (at-digits .digits .ensures, at-wide .wide .ensures) at (at-index .index .ensures)),
     )
 
 same-length : tie.Need-same-length Inv-loop μ-loop

@@ -2,7 +2,6 @@
 use mathlib.Core.Path.{sym}
 use native.Mathlib.Omega.{arith}
 use Rattle.utf8.proofs.Begun.{begins-low, begins-high, begins-not}
-use borrow.Author.Needs.{needs}
 use Rattle.utf8.proofs.decoding.begins.Statement.{statement}
 use Rattle.utf8.proofs.decoding.begins.Tie as tie
 

@@ -1,4 +1,4 @@
--- `text::utf8::by_ones` meets its contract: the leading ones tell the range of the first byte, and valid bytes have all that follow it.
+-- The leading ones tell the range of the first byte, and valid bytes have all that follow it.
 use native.Mathlib.Omega.{arith}
 use Rattle.utf8.proofs.FirstBytes.{begun}
 use borrow.Author.Needs.{needs}
@@ -112,10 +112,14 @@ add-t31 c = search needs
 
 returns-4 : tie.Need-returns-4
 returns-4 c =
-    let o = c .before .before .before .before .before .before .before .before .before in
+    let at-low-bits2 = c .before .before .before in
+    let at-if2 = at-low-bits2 .before .before in
+    let at-low-bits = at-if2 .before in
+    let at-if1 = at-low-bits .before .before in
+    let o = at-if1 .before in
     let s = o .before .before .before .args .rest .now in
     let b = begun s (o .ones .result) (o .before .before .before .pre .0) (o .before .before .before .pre .1) (omega (arith, o .before .shared-slice-known2 .given 0)) (o .ones .ensures) in
-    rw (c .before .before .before .before .before .before .low-bits .ensures, c .before .before .before .low-bits2 .ensures, c .low-bits3 .ensures) (b .four (c .before .before .before .before .before .before .before .before .if1 .left) (c .before .before .before .before .before .if2 .left) (c .before .before .if3 .left))
+    rw (at-low-bits .low-bits .ensures, at-low-bits2 .low-bits2 .ensures, c .low-bits3 .ensures) (b .four (at-if1 .if1 .left) (at-if2 .if2 .left) (c .before .before .if3 .left))
 
 pub by-ones-spec : {M : Type 1} → statement M
 by-ones-spec =

@@ -1,4 +1,4 @@
--- `text::utf8::decode` meets its contract: E2 begins three bytes, and of the others the leading ones tell.
+-- E2 begins three bytes, and of the other first bytes the leading ones tell.
 use native.Mathlib.Omega.{arith}
 use Rattle.utf8.proofs.FirstBytes.{read-E2}
 use borrow.Author.Needs.{needs}

@@ -1,4 +1,4 @@
--- `text::utf8::ones` meets its contract, by the test over all bytes.
+-- The zeros that lead a byte turned over are its leading ones, by the test over all bytes.
 use Rattle.utf8.proofs.Leading.{leading}
 use borrow.Author.Needs.{needs}
 use Rattle.utf8.proofs.decoding.ones.Statement.{statement}

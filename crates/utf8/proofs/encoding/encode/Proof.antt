@@ -1,4 +1,4 @@
--- `text::encoding::encode` meets its contract: in each range of v the bytes written are those that the rules name for it.
+-- In each range of v the bytes written are those that the rules name for it.
 use mathlib.Core.Path.{_≡_, refl, ap}
 use Prim.Native.Nat.{suc, _+_}
 use native.Mathlib.Omega.{arith}

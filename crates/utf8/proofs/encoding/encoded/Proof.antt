@@ -1,4 +1,4 @@
--- `text::encoding::encoded` meets its contract: in each range of v the rules name that many bytes.
+-- In each range of v the rules name that many bytes.
 use Rattle.rules.proofs.Chars.{utf8-one, utf8-two, utf8-three, utf8-four}
 use Rattle.utf8.proofs.encoding.encoded.Statement.{statement}
 use Rattle.utf8.proofs.encoding.encoded.Tie as tie

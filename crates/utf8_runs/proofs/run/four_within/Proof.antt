@@ -45,10 +45,13 @@ all-requires c κs = search needs
 
 returns : tie.Need-returns
 returns c =
-    let a = c .before .before .before .before .before .before .before .before .before .before .args in
-    let b = c .before .before .before .before .before .before .before .lies .ensures in
-    let d = c .before .before .before .before .before .lies2 .ensures in
-    let f = c .before .before .before .lies3 .ensures in
+    let at-lies3 = c .before .before .before in
+    let at-lies2 = at-lies3 .before .before in
+    let at-lies = at-lies2 .before .before in
+    let a = at-lies .before .before .before .args in
+    let b = at-lies .lies .ensures in
+    let d = at-lies2 .lies2 .ensures in
+    let f = at-lies3 .lies3 .ensures in
     let g = c .before .lies4 .ensures in (
       λ e.
           let t = c .all .ensures .0 e in

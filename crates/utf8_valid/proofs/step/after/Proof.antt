@@ -1,4 +1,4 @@
--- `text::utf8::after` meets its contract: the leading ones tell the range of the first byte.
+-- The leading ones tell the range of the first byte.
 use mathlib.Core.Path.{sym, _∙_}
 use native.Mathlib.Omega.{arith}
 use Rattle.rules.proofs.Chars.{following-00}

@@ -1,4 +1,4 @@
--- `text::utf8::after_three` meets its contract, by the grammar's alternative for each range of first bytes.
+-- One return for each range of first bytes, by the grammar's alternative for it.
 use native.Mathlib.Omega.{arith}
 use native.Mathlib.Decide.{decLe}
 use Rattle.rules.specs.Utf8.{tail}

@@ -1,4 +1,4 @@
--- `text::utf8::after_two` meets its contract, by the grammar's alternative for each range of first bytes.
+-- One return for each range of first bytes, by the grammar's alternative for it.
 use mathlib.Core.Path.{sym, _∙_}
 use native.Mathlib.Omega.{arith}
 use Rattle.rules.specs.Utf8.{tail}

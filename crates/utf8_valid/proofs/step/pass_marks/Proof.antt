@@ -4,7 +4,6 @@ use native.Mathlib.Omega.{arith}
 use lib.ListN.{length}
 use Rattle.utf8_valid.specs.Passed.{Passed}
 use Rattle.utf8_valid.proofs.Passed.{passed-none, passed-join}
-use borrow.Author.Needs.{needs}
 use Rattle.utf8_valid.proofs.step.pass_marks.Statement.{statement}
 use Rattle.utf8_valid.proofs.step.pass_marks.Tie as tie
 

@@ -37,8 +37,11 @@ add-result c = search needs
 
 returns-2 : tie.Need-returns-2
 returns-2 c =
-    let a = c .before .before .before .before .before .before .before .before .before .before .args in
-    passed-three (a .s .now) (a .at) (omega arith) (c .before .before .before .before .before .before .if2 .taken) (c .before .before .before .before .lies .ensures .0 (c .before .before .before .if3 .taken)) (c .before .lies2 .ensures .0 (c .if4 .taken))
+    let at-if3 = c .before .before .before in
+    let at-lies = at-if3 .before in
+    let at-if2 = at-lies .before .before in
+    let a = at-if2 .before .before .before .before .args in
+    passed-three (a .s .now) (a .at) (omega arith) (at-if2 .if2 .taken) (at-lies .lies .ensures .0 (at-if3 .if3 .taken)) (c .before .lies2 .ensures .0 (c .if4 .taken))
 
 returns-3 : tie.Need-returns-3
 returns-3 c = passed-none _ _ (omega arith)

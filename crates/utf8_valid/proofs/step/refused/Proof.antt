@@ -1,4 +1,4 @@
--- `text::utf8::refused` meets its contract: its range is empty.
+-- No byte is in an empty range.
 use Rattle.utf8_valid.proofs.Wanted.{empty}
 use Rattle.utf8_valid.proofs.step.refused.Statement.{statement}
 use Rattle.utf8_valid.proofs.step.refused.Tie as tie

@@ -1,4 +1,4 @@
--- `text::utf8::step` meets its contract: the byte passes the next test, fails it, or begins a character.
+-- The byte passes the next test, fails it, or begins a character.
 use mathlib.Core.Path.{sym, _∙_}
 use native.Mathlib.Omega.{arith}
 use Rattle.utf8_valid.proofs.Wanted.{begun, alone, passed, failed}

@@ -1,5 +1,5 @@
--- `text::utf8::steps` meets its contract: all is valid if the bytes from `at` on are what is wanted there.
-use mathlib.Core.Path.{_≡_, refl, ap, sym, _∙_}
+-- All is valid if the bytes from `at` on are what is wanted there.
+use mathlib.Core.Path.{_≡_, ap, sym, _∙_}
 use native.Mathlib.Omega.{arith}
 use Prim.Native.Nat.{suc, _≤_, _-_}
 use native.Mathlib.Numerals.{add-one}
