@@ -7,13 +7,14 @@ use Rattle.rules.specs.Base.{concat}
 use Rattle.rules.specs.Levels.{view}
 use Rattle.rules.specs.Graph.{fenced}
 use Rattle.graphs.specs.Entries.{lead, rowEntries, entriesIn}
-use Rattle.graphs.proofs.AllRows.{no-rows, one-row-more, rows-view}
+use Rattle.graphs.proofs.AllRows.{no-rows, one-row-more}
 use Rattle.graph_same.specs.Meets.{meets}
 use Rattle.graph_scan.specs.Held.{planBy}
 use Rattle.graph_same.proofs.Meets.{meets-append, meets-none}
 use Rattle.graph_same.proofs.Given.{counted, given-shows}
 use Rattle.graph_same.proofs.graph.entries.Statement.{statement}
 use Rattle.graph_same.proofs.graph.entries.Tie as tie
+use Rattle.levels.proofs.Shown.{rows-view}
 
 abbrev Inv-loop : tie.InvT-loop
 Inv-loop text at table nodes column seen order rows to₀ i₀ to i =

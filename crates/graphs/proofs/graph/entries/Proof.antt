@@ -5,14 +5,14 @@ use Prim.Native.Nat.{_≤_, _-_}
 use native.Mathlib.Omega.{arith}
 use Rattle.rules.specs.Base.{concat}
 use Rattle.levels.specs.Shown.{planShown}
-use Rattle.levels.proofs.Shown.{shows}
+use Rattle.levels.proofs.Shown.{shows, rows-view}
 use Rattle.rules.specs.Levels.{view}
 use Rattle.levels.proofs.Accepted.{depth-small}
 use Rattle.put.specs.Put.{Put}
 use Rattle.graphs.specs.Forms.{formOf}
 use Rattle.graphs.specs.Entries.{lead, entriesIn}
 use Rattle.put.proofs.Puts.{idle, then, put-length}
-use Rattle.graphs.proofs.AllRows.{no-rows, one-row-more, row-fits, rows-view}
+use Rattle.graphs.proofs.AllRows.{no-rows, one-row-more, row-fits}
 use Rattle.graphs.proofs.graph.entries.Statement.{statement}
 use Rattle.graphs.proofs.graph.entries.Tie as tie
 

@@ -6,11 +6,11 @@ use Rattle.rules.specs.Look.{lenOf}
 use Rattle.text.proofs.Counted.{len-most}
 use Rattle.rules.specs.Levels.{view}
 use Rattle.levels.specs.Shown.{planShown}
-use Rattle.levels.proofs.Shown.{shows, small}
+use Rattle.levels.proofs.Shown.{shows, small, count-view, rows-view}
 use Rattle.tree_view.specs.declared.heights.Rows.{Rows}
 use Rattle.tree_view.proofs.Limits.{d-le, columns-le, rows-le}
 use Rattle.tree_view.proofs.Ruled.{column-offset-at}
-use Rattle.tree_view.proofs.Whole.{count-view, rows-view, digits-asks, digits-ruled, columns-ask, rows-ask, width-asks, width-answers, height-asks, height-answers}
+use Rattle.tree_view.proofs.Whole.{digits-asks, digits-ruled, columns-ask, rows-ask, width-asks, width-answers, height-asks, height-answers}
 use Rattle.tree_format.proofs.Measures.{columns-answered, rows-answered}
 use borrow.Author.Needs.{needs}
 use Rattle.rows.proofs.entry.measured.Statement.{statement}
@@ -26,14 +26,14 @@ index-digits-requires : tie.Need-index-digits-requires
 index-digits-requires c κs =
     let s = c .before .before .before .before .before .before in
     let a = shows (s .pre .0 .0) in
-    digits-asks a (s .args .nodes) (s .pre .0 .1) (c .rows .result) (rows-view a (s .args .nodes) (s .pre .0 .1) (c .rows .result) (c .rows .ensures))
+    digits-asks a (s .args .nodes) (s .pre .0 .1) (c .rows .result) (rows-view a (c .rows .result) (c .rows .ensures))
 
 add-tree-columns : tie.Need-add-tree-columns
 add-tree-columns c =
     let s = c .before .before .before .before .before .before .before in
     let a = shows (s .pre .0 .0) in
     let n = s .args .nodes in
-    let r = rows-view a n (s .pre .0 .1) (c .before .rows .result) (c .before .rows .ensures) in
+    let r = rows-view a (c .before .rows .result) (c .before .rows .ensures) in
     let e = digits-ruled a n (s .pre .0 .1) (c .before .rows .result) (c .index-digits .result) r (c .index-digits .ensures) in
     record { fits = omega (arith, e, d-le (planShown (s .args .style .given) (s .args .standin .now) (s .args .table .now) (s .args .titles .now)) (small a)) }
 
@@ -44,9 +44,9 @@ tree-columns-requires c κs =
     let n = s .args .nodes in
     let m = s .pre .1 .0 in
     let p = planShown (s .args .style .given) (s .args .standin .now) (s .args .table .now) (s .args .titles .now) in
-    let r = rows-view a n (s .pre .0 .1) (c .before .rows .result) (c .before .rows .ensures) in
+    let r = rows-view a (c .before .rows .result) (c .before .rows .ensures) in
     let e = digits-ruled a n (s .pre .0 .1) (c .before .rows .result) (c .index-digits .result) r (c .index-digits .ensures) in
-    let k = count-view a n (s .pre .0 .1) (s .args .ncols) (s .pre .1 .1) in (
+    let k = count-view a (s .args .ncols) (s .pre .1 .1) in (
       columns-ask a n (s .pre .0 .1) (lenOf (s .args .style .measure)) (len-most (s .args .style .measure)) (s .args .column .now) (s .args .longest .now) (replicate 256 0) (replicate 256 0)
           (rw (s .pre .0 .1) (m .columns-are)) refl (rw (s .pre .0 .1) (m .longest-are)) refl,
       (omega (arith, k, columns-le p (small a)), omega (arith, e, d-le p (small a))),
@@ -57,7 +57,7 @@ tree-rows-requires c κs =
     let s = c .before .before .before .before .before .before .before .before in
     let a = shows (s .pre .0 .0) in
     let n = s .args .nodes in
-    let r = rows-view a n (s .pre .0 .1) (c .before .before .rows .result) (c .before .before .rows .ensures) in (
+    let r = rows-view a (c .before .before .rows .result) (c .before .before .rows .ensures) in (
       (omega (arith, a .whole, s .pre .0 .1), rows-ask a n (s .pre .0 .1) (s .args .lines .now) (replicate 256 0) (rw (s .pre .0 .1) (s .pre .1 .0 .lines-are)) refl),
       omega (arith, r, rows-le (planShown (s .args .style .given) (s .args .standin .now) (s .args .table .now) (s .args .titles .now)) (small a)),
     )
@@ -85,7 +85,7 @@ canvas-height-requires c κs =
     let a = shows (s .pre .0 .0) in
     let n = s .args .nodes in
     let m = s .pre .1 .0 in
-    let r = rows-view a n (s .pre .0 .1) (o .rows .result) (o .rows .ensures) in
+    let r = rows-view a (o .rows .result) (o .rows .ensures) in
     let rs = rows-answered (len-most (s .args .style .measure)) a m n (o .rows .result) (t .tree-rows .result) (s .pre .0 .1) (o .rows .ensures) (t .tree-rows .ensures) in
     height-asks a n (s .pre .0 .1) (t .tree-rows .result) (o .rows .result) rs r
 
@@ -102,7 +102,7 @@ sized-requires c κs =
     let n = s .args .nodes in
     let m = s .pre .1 .0 in
     let cs = columns-answered (len-most (s .args .style .measure)) a m n (s .args .ncols) (o .rows .result) (i .index-digits .result) _ _ _ (s .pre .0 .1) (s .pre .1 .1) (o .rows .ensures) (i .index-digits .ensures) (u .tree-columns .ensures) in
-    let r = rows-view a n (s .pre .0 .1) (o .rows .result) (o .rows .ensures) in
+    let r = rows-view a (o .rows .result) (o .rows .ensures) in
     let rs = rows-answered (len-most (s .args .style .measure)) a m n (o .rows .result) (t .tree-rows .result) (s .pre .0 .1) (o .rows .ensures) (t .tree-rows .ensures) in (
       s .pre .0,
       (
