@@ -2,7 +2,7 @@
 use crate::bad;
 use crate::lent;
 use crate::line;
-use plan_file::word;
+use file_words::word;
 use text::wide;
 
 // Reads a graph with all lent memory fresh, prints the answer, and sums the memory up.

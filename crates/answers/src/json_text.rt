@@ -3,8 +3,8 @@ use crate::bad;
 use crate::lent;
 use crate::line;
 use crate::plan_in;
-use plan_file::word;
-use plan_file::words;
+use file_words::word;
+use file_words::words;
 use text::wide;
 
 // Out, and in.

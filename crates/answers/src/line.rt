@@ -27,8 +27,8 @@ pub fn print_graph(a: Answer) {
 
 // The numbers of a reading, which has no size.
 pub fn print_reading(r: Reading) {
-    print_number(rules::reading_number(r) as u64, 32);
-    print_number(rules::reading_second(r) as u64, 32);
+    print_number(numbers::reading_number(r) as u64, 32);
+    print_number(numbers::reading_second(r) as u64, 32);
     console::print(b"0 0 0 ");
 }
 

@@ -9,8 +9,8 @@ mod sheet;
 
 ghost use Prim.Native.Nat.{_≤_};
 ghost use lib.ListN.{length};
-use plan_file::word;
-use plan_file::words;
+use file_words::word;
+use file_words::words;
 use rules::Answer;
 use rules::Drawing;
 use rules::Reading;
@@ -85,8 +85,8 @@ fn drawing<'a>(
     if look == 0 {
         return tree_format::tree_fmt_text(table, titles, cells, out);
     }
-    let measure = rules::measure_of(look);
-    let profile = rules::profile_of(look);
+    let measure = numbers::measure_of(look);
+    let profile = numbers::profile_of(look);
     let given = 3 < look;
     tree_format::draw(table, titles, given, standin, measure, profile, cells, out)
 }
@@ -315,8 +315,8 @@ fn read(
     if look == 0 {
         return picture::read(picture, cells, table, titles);
     }
-    let measure = rules::measure_of(look);
-    let profile = rules::profile_of(look);
+    let measure = numbers::measure_of(look);
+    let profile = numbers::profile_of(look);
     picture::read_as(picture, measure, profile, cells, table, titles)
 }
 

@@ -2,8 +2,8 @@
 use crate::bad;
 use crate::line;
 use crate::plan_in;
-use plan_file::word;
-use plan_file::words;
+use file_words::word;
+use file_words::words;
 use text::wide;
 
 // Why is this step drawn here, and does it fit the screen.

@@ -2,8 +2,8 @@
 use crate::line;
 use crate::plan_in;
 use crate::standin_in;
-use plan_file::word;
-use plan_file::words;
+use file_words::word;
+use file_words::words;
 use text::wide;
 
 // Draws the plan of a payload on sheets of this width and height, and prints the answer.
@@ -24,8 +24,8 @@ fn draw_plan<'a>(
         return false;
     }
     words(payload, end, &mut table[..n]);
-    let measure = rules::measure_of(look);
-    let profile = rules::profile_of(look);
+    let measure = numbers::measure_of(look);
+    let profile = numbers::profile_of(look);
     line::print_drawing(sheets::sheets(
         &table[..n],
         &payload[4..end],

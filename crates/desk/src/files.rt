@@ -130,7 +130,7 @@ pub fn input(args: &[u8], p: Part, buf: &mut [u8]) -> Input
     ensures { λ r. ⌜ Counts (r .size) (now (buf .exit)) ⌝ }
 {
     if p.given {
-        return read_file(desk_answer::part(args, p), buf);
+        return read_file(desk_options::part(args, p), buf);
     }
     read_input(STDIN_FILENO, buf)
 }

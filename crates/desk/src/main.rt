@@ -4,8 +4,8 @@ mod files;
 ghost use mathlib.Core.Path.{_≡_};
 ghost use Prim.Native.Nat.{_≤_};
 ghost use lib.ListN.{length};
-use desk_answer::Source;
 use desk_line::Command;
+use desk_options::Source;
 use desk_page::Shown;
 use desk_plan::Loaded;
 use desk_words::Word;
@@ -57,7 +57,7 @@ fn compare<'a>(
     if out.len() < 65736 {
         return;
     }
-    let r = desk_answer::check(args, table, titles, picture, cells, other, words, out);
+    let r = desk_check::check(args, table, titles, picture, cells, other, words, out);
     show(r, out);
 }
 
@@ -140,7 +140,7 @@ fn check(
 {
     let o = c.operands;
     let p = o.plan;
-    let got = files::read_file(desk_answer::part(args, p), input);
+    let got = files::read_file(desk_options::part(args, p), input);
     if got.failed {
         return;
     }
@@ -190,7 +190,7 @@ fn read(
 fn alone(c: Command) -> bool {
     let trouble = c.trouble;
     let word = c.word;
-    let source = desk_answer::source_of(word);
+    let source = desk_options::source_of(word);
     if let Source::Nothing = source {
         return true;
     }

@@ -10,7 +10,7 @@ use Rattle.rules.specs.Look.{lookOf}
 use Rattle.rules.specs.Standin.{standinOf}
 use Rattle.rules.specs.declared.Measure.{Measure}
 use Rattle.rules.specs.declared.Profile.{Profile}
-use Rattle.graphs.specs.Forms.{formOf}
+use Rattle.graph_words.specs.Forms.{formOf}
 use Rattle.desk_words.specs.declared.Word.{Word}
 use Rattle.desk_line.specs.Said.{partOf, said}
 use Rattle.desk_line.specs.declared.Command.{Command}
@@ -19,9 +19,9 @@ use Rattle.desk_page.specs.Lays.{LaidAs, Lays}
 use Rattle.desk_page.specs.declared.Shown.{Shown}
 use Rattle.desk_ask.specs.Asked.{Whys, fitsPage}
 use Rattle.desk_draw.specs.Drawn.{drawPage, rowsPage, sheetsPage, graphPage, jsonPage}
-use Rattle.desk_answer.specs.Options.{measureIn, profileIn, lookIn, standinIn}
+use Rattle.desk_options.specs.Options.{measureIn, profileIn, lookIn, standinIn}
 use Rattle.desk_answer.specs.Printed.{OfPlan}
-use Rattle.desk_answer.proofs.Said.{said-standin}
+use Rattle.desk_options.proofs.Said.{said-standin}
 
 -- the page that a command asks for is laid
 abbrev pub Asked : (A : List ℕ) → Command → (T B O : List ℕ) → (cells room : ℕ) → Shown → Type 0

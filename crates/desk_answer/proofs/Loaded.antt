@@ -15,7 +15,7 @@ use Rattle.desk_plan.specs.declared.Loaded.{Loaded}
 use Rattle.desk_read.specs.Pictured.{Unread, Pictured}
 use Rattle.desk_line.specs.Line.{Line}
 use Rattle.desk_draw.specs.Drawn.{jsonPage}
-use Rattle.desk_answer.specs.Options.{lookIn}
+use Rattle.desk_options.specs.Options.{lookIn}
 use Rattle.desk_answer.specs.Printed.{OfPicture}
 
 first : Loaded → ℕ

@@ -3,12 +3,11 @@
 use mathlib.Core.Path.{_≡_}
 use mathlib.Core.List.{List, []}
 use mathlib.Core.Bool.{true, false, not}
-use mathlib.Core.Option.{Option, none, some}
 use Prim.Native.Nat.{ℕ}
 use Rattle.rules.specs.Base.{pick}
 use Rattle.rules.specs.Plan.{Node}
 use Rattle.rules.specs.Reader.{tableOf, titlesOf, Draws}
-use Rattle.graphs.specs.Forms.{formOf}
+use Rattle.graph_words.specs.Forms.{formOf}
 use Rattle.desk_words.specs.declared.Word.{Word}
 use Rattle.desk_line.specs.Line.{Line, troubled}
 use Rattle.desk_say.specs.Refusals.{textRefusal}
@@ -19,26 +18,8 @@ use Rattle.desk_ask.specs.Asked.{Whys, fitsPage}
 use Rattle.desk_plan.specs.Loads.{Holds, Refuses}
 use Rattle.desk_read.specs.Pictured.{Unread}
 use Rattle.desk_draw.specs.Drawn.{drawPage, rowsPage, sheetsPage, graphPage, jsonPage}
-use Rattle.desk_answer.specs.Options.{lookIn, standinIn}
-use Rattle.desk_answer.specs.declared.Source.{Source}
-
--- the argument that is wrong, if it is one
-abbrev pub aboutIn : Option (List ℕ) → List ℕ
-aboutIn none = []
-aboutIn (some a) = a
-
--- what a word reads: a plan, a picture, or nothing
-abbrev pub sourceOf : Word → Source
-sourceOf Word.Draw = Source.Plan
-sourceOf Word.Sheets = Source.Plan
-sourceOf Word.Graph = Source.Plan
-sourceOf Word.Json = Source.Plan
-sourceOf Word.Read = Source.Picture
-sourceOf Word.Check = Source.Picture
-sourceOf Word.Why = Source.Plan
-sourceOf Word.Fits = Source.Plan
-sourceOf Word.Help = Source.Nothing
-sourceOf Word.Unknown = Source.Nothing
+use Rattle.desk_options.specs.Options.{lookIn, standinIn, aboutIn, sourceOf}
+use Rattle.desk_options.specs.declared.options.Source.{Source}
 
 module _ (l : Line) (cells room : ℕ) where
   -- of the plan whose table is T and whose title bytes are B (words that ask of no plan print nothing)

@@ -20,7 +20,7 @@ fn held_against<'a>(
 {
     let mut other = [0u32; 771];
     let mut words = [0u8; 65536];
-    desk_answer::check(
+    desk_check::check(
         args,
         table,
         titles,

@@ -8,7 +8,7 @@ ghost use Rattle.io.specs.Counts.{Counts};
 use asked::asked;
 use console::Input;
 use desk_page::Shown;
-use plan_file::word;
+use file_words::word;
 use text::wide;
 
 // Reads a part of a request, which fails if it is not whole or too long.

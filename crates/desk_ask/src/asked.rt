@@ -16,7 +16,7 @@ fn reason_page(table: &[u32], reason: Reason, out: &mut [u8]) -> Shown
     ensures { λ r. ⌜ Lays (now (out .exit)) r (reasonPage (now (table .entry)) reason) ⌝ }
 {
     match reason {
-        Reason::Refused(a) => refuse(table, rules::number(a), rules::second(a), out),
+        Reason::Refused(a) => refuse(table, numbers::number(a), numbers::second(a), out),
         Reason::NoCell => refuse(table, 13, 0, out),
         Reason::Root(k) => put_out(desk_tell::why_words(out, Reason::Root(k))),
         Reason::Under(q) => put_out(desk_tell::why_words(out, Reason::Under(q))),
@@ -39,10 +39,10 @@ fn fitting_page(table: &[u32], fitting: Fitting, out: &mut [u8]) -> Shown
     ensures { λ r. ⌜ Lays (now (out .exit)) r (fittingPage (now (table .entry)) fitting) ⌝ }
 {
     let a = fitting.answer;
-    if rules::done(a) {
+    if numbers::done(a) {
         return put_out(desk_tell::fits_words(out, fitting.yes, fitting.read));
     }
-    refuse(table, rules::number(a), rules::second(a), out)
+    refuse(table, numbers::number(a), numbers::second(a), out)
 }
 
 // Whether the drawing is at most n wide and m high.

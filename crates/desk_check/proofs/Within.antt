@@ -17,7 +17,7 @@ use Rattle.rules.specs.declared.Measure.{Measure}
 use Rattle.rules.specs.declared.Profile.{Profile}
 use Rattle.rules.proofs.Gates.{gate-plan, gate-passed}
 use Rattle.levels.proofs.Accepted.{title-fits}
-use Rattle.levels.proofs.Refused.{all-showable, plan-all}
+use Rattle.refusals.proofs.Refused.{all-showable, plan-all}
 use Rattle.rules.proofs.Text.{each-room}
 use Rattle.levels.proofs.Tables.{length-table, count-table, start-table, size-table}
 use Rattle.delivery.proofs.Titles.{titles-all}

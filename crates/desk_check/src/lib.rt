@@ -1,4 +1,5 @@
 // Whether a sheet is the drawing of a plan, and if not, where it first differs.
+mod asked;
 mod sheet;
 
-pub use sheet::check_page;
+pub use asked::check;

@@ -75,7 +75,7 @@ fn differs<'a>(
 }
 
 // Whether the sheet is the plan's drawing, which is drawn to be held against it, or why the plan is not drawn.
-pub fn check_page<'a>(
+pub(crate) fn check_page<'a>(
     table: &[u32],
     titles: &'a [u8],
     given: bool,
@@ -93,9 +93,9 @@ pub fn check_page<'a>(
 {
     let d = tree_format::draw(table, titles, given, standin, measure, profile, cells, out);
     let a = d.answer;
-    let size = rules::second(a);
-    if !rules::done(a) {
-        return desk_page::refuse(table, rules::number(a), size, out);
+    let size = numbers::second(a);
+    if !numbers::done(a) {
+        return desk_page::refuse(table, numbers::number(a), size, out);
     }
     if desk_words::alike(&out[..size], picture) {
         return put_out(desk_tell::same_words(out));

@@ -3,7 +3,7 @@ ghost use Prim.Native.Nat.{_≤_};
 ghost use lib.ListN.{length};
 ghost use Rattle.rules.specs.Look.{lookOf};
 ghost use Rattle.rules.specs.Standin.{standinOf};
-ghost use Rattle.graphs.specs.Forms.{formOf};
+ghost use Rattle.graph_words.specs.Forms.{formOf};
 ghost use Rattle.desk_page.specs.Lays.{Lays};
 ghost use Rattle.desk_draw.specs.Drawn.{drawPage, rowsPage, sheetsPage, graphPage, jsonPage};
 use desk_page::Shown;

@@ -58,9 +58,9 @@ pub fn finish(table: &[u32], answer: Answer, out: &mut [u8]) -> Shown
     requires { ⌜ (length (now table) ≤ 771) × (500 ≤ length (now out)) ⌝ }
     ensures { λ r. ⌜ ((t : List ℕ) → Written answer t (now (out .entry)) → Lays (now (out .exit)) r (pageOf (now (table .entry)) answer t)) ⌝ }
 {
-    let second = rules::second(answer);
-    if rules::done(answer) {
+    let second = numbers::second(answer);
+    if numbers::done(answer) {
         return put_out(second);
     }
-    refuse(table, rules::number(answer), second, out)
+    refuse(table, numbers::number(answer), second, out)
 }

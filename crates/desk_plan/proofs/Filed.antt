@@ -12,9 +12,9 @@ use Rattle.rules.specs.Base.{laid}
 use Rattle.rules.specs.File.{endsInTree, formed, offsetIn, countIn, titlesIn}
 use Rattle.put.specs.Put.{Put}
 use Rattle.put.proofs.Puts.{put-laid}
-use Rattle.plan_file.specs.Words.{wordsFrom}
-use Rattle.plan_file.proofs.Files.{whole-form}
-use Rattle.plan_file.proofs.Places.{length-words}
+use Rattle.file_words.specs.Words.{wordsFrom}
+use Rattle.file_words.proofs.Files.{whole-form}
+use Rattle.file_words.proofs.Places.{length-words}
 use Rattle.desk_plan.specs.Loads.{entriesIn, Holds, Loads}
 use Rattle.desk_plan.specs.declared.Loaded.{Loaded}
 

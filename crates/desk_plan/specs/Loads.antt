@@ -16,7 +16,7 @@ use Rattle.rules.specs.Reader.{Found, tableOf, titlesOf}
 use Rattle.rules.specs.GraphReader.{Writes, RightGraph, graphReading}
 use Rattle.json.specs.Text.{Means, Broken}
 use Rattle.json.specs.Import.{importNumber, importSecond, taken}
-use Rattle.plan_file.specs.Words.{wordsFrom}
+use Rattle.file_words.specs.Words.{wordsFrom}
 use Rattle.desk_plan.specs.declared.Loaded.{Loaded}
 
 -- as many table entries of a file as are read: those of 257 nodes at most, which are too many already

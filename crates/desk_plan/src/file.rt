@@ -6,7 +6,7 @@ ghost use lib.ListN.{length};
 ghost use Rattle.rules.specs.File.{formed, offsetIn};
 ghost use Rattle.desk_plan.specs.Loads.{entriesIn, Loads};
 use crate::Loaded;
-use plan_file::word;
+use file_words::word;
 use text::wide;
 
 // Where its table begins.
@@ -22,7 +22,7 @@ fn entries_of(file: &[u8]) -> usize
     requires { ⌜ formed (now file) ≡ true ⌝ }
     ensures { λ r. ⌜ r ≡ entriesIn (now (file .entry)) ⌝ }
 {
-    plan_file::few(wide(word(file, file.len() - 8))) * 3
+    file_words::few(wide(word(file, file.len() - 8))) * 3
 }
 
 // Reads its table and its titles.
@@ -32,7 +32,7 @@ pub(crate) fn load_file(file: &[u8], table: &mut [u32], titles: &mut [u8]) -> Lo
 {
     let offset = offset_of(file);
     let entries = entries_of(file);
-    plan_file::words(file, offset, &mut table[..entries]);
+    file_words::words(file, offset, &mut table[..entries]);
     put::bytes(titles, 0, &file[..offset]);
     Loaded::Plan(entries, offset)
 }

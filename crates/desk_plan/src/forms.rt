@@ -26,7 +26,7 @@ pub(crate) fn from_file(file: &[u8], table: &mut [u32], titles: &mut [u8]) -> Lo
     requires { ⌜ (endsInTree (now file) ≡ true) × (771 ≤ length (now table)) × (65536 ≤ length (now titles)) ⌝ }
     ensures { λ r. ⌜ Loads (now (file .entry)) (now (table .entry)) (now (titles .entry)) r (now (table .exit)) (now (titles .exit)) ⌝ }
 {
-    if !plan_file::formed(file) {
+    if !file_words::formed(file) {
         return Loaded::Refused(11, 0);
     }
     load_file(file, table, titles)
@@ -38,7 +38,11 @@ pub(crate) fn from_graph(text: &[u8], table: &mut [u32], titles: &mut [u8]) -> L
     ensures { λ r. ⌜ Loads (now (text .entry)) (now (table .entry)) (now (titles .entry)) r (now (table .exit)) (now (titles .exit)) ⌝ }
 {
     let r = graph_read::read_fenced(text, table, titles);
-    read_by(rules::reading_number(r), rules::reading_second(r), table)
+    read_by(
+        numbers::reading_number(r),
+        numbers::reading_second(r),
+        table,
+    )
 }
 
 // The plan that a JSON text means.

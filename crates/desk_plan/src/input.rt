@@ -10,7 +10,7 @@ pub fn load(input: &[u8], table: &mut [u32], titles: &mut [u8]) -> Loaded
     requires { ⌜ (771 ≤ length (now table)) × (65536 ≤ length (now titles)) × (length (now titles) ≤ 1048576) ⌝ }
     ensures { λ r. ⌜ Loads (now (input .entry)) (now (table .entry)) (now (titles .entry)) r (now (table .exit)) (now (titles .exit)) ⌝ }
 {
-    if plan_file::ends_in_tree(input) {
+    if file_words::ends_in_tree(input) {
         return forms::from_file(input, table, titles);
     }
     if forms::graphed(input) {

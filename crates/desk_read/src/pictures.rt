@@ -20,5 +20,9 @@ pub fn load_picture(
     ensures { λ r. ⌜ Pictured (lookOf measure profile) (now (picture .entry)) (now (table .entry)) (now (titles .entry)) (length (now (cells .entry))) r (now (table .exit)) (now (titles .exit)) ⌝ }
 {
     let r = picture::read_as(picture, measure, profile, cells, table, titles);
-    desk_plan::read_by(rules::reading_number(r), rules::reading_second(r), table)
+    desk_plan::read_by(
+        numbers::reading_number(r),
+        numbers::reading_second(r),
+        table,
+    )
 }

@@ -26,8 +26,8 @@ fn answer(table: &[u32], row: u32, column: u32) -> Reason
 pub fn why(table: &[u32], titles: &[u8], row: u32, column: u32) -> Reason
     ensures { λ r. ⌜ Explains (now (table .entry)) (now (titles .entry)) row column r ⌝ }
 {
-    let refusal = levels::first_refusal(table, titles, false);
-    if !rules::done(refusal) {
+    let refusal = refusals::first_refusal(table, titles, false);
+    if !numbers::done(refusal) {
         return Reason::Refused(refusal);
     }
     answer(table, row, column)

@@ -8,7 +8,13 @@ pub fn told(r: Reason) -> [u64; 5]
     ensures { λ t. ⌜ t ≡ toldOf r ⌝ }
 {
     match r {
-        Reason::Refused(a) => [rules::number(a) as u64, rules::second(a) as u64, 0, 0, 0],
+        Reason::Refused(a) => [
+            numbers::number(a) as u64,
+            numbers::second(a) as u64,
+            0,
+            0,
+            0,
+        ],
         Reason::NoCell => [13, 0, 0, 0, 0],
         Reason::Root(k) => [0, 0, 0, k as u64, 0],
         Reason::Under(q) => [0, 0, 1, q as u64, 0],

@@ -25,8 +25,8 @@ pub fn drawing_five(d: Drawing) -> [u64; 5]
 {
     let a = d.answer;
     [
-        small(rules::number(a)),
-        same(rules::second(a)),
+        small(numbers::number(a)),
+        same(numbers::second(a)),
         same(d.width),
         same(d.height),
         same(d.untitled),
@@ -37,7 +37,7 @@ pub fn drawing_five(d: Drawing) -> [u64; 5]
 pub fn graph_five(a: Answer) -> [u64; 5]
     ensures { λ r. ⌜ r ≡ graphFive a ⌝ }
 {
-    [small(rules::number(a)), same(rules::second(a)), 0, 0, 0]
+    [small(numbers::number(a)), same(numbers::second(a)), 0, 0, 0]
 }
 
 // The five numbers of a reading.
@@ -45,8 +45,8 @@ pub fn reading_five(r: Reading) -> [u64; 5]
     ensures { λ a. ⌜ a ≡ readingFive r ⌝ }
 {
     [
-        small(rules::reading_number(r)),
-        same(rules::reading_second(r)),
+        small(numbers::reading_number(r)),
+        same(numbers::reading_second(r)),
         0,
         0,
         0,

@@ -54,8 +54,8 @@ pub extern "C" fn girthladder_text_as(
     ensures canvas_left { λ _. ⌜ now (canvas .exit) ≡ canvasAfter (lookIn look) none (now (table .entry)) (now (titles .entry)) (length (now (out .entry))) (now (canvas .entry)) ⌝ }
     ensures out_left { λ _. ⌜ now (out .exit) ≡ outAfter (lookIn look) none (now (table .entry)) (now (titles .entry)) (length (now (canvas .entry))) (now (out .entry)) ⌝ }
 {
-    let measure = rules::measure_of(look);
-    let profile = rules::profile_of(look);
+    let measure = numbers::measure_of(look);
+    let profile = numbers::profile_of(look);
     let d = tree_format::draw(table, titles, false, titles, measure, profile, canvas, out);
     *answer = five::drawing_five(d);
 }
@@ -76,9 +76,9 @@ pub extern "C" fn girthladder_text_with<'a>(
     ensures canvas_left { λ _. ⌜ now (canvas .exit) ≡ canvasAfter (lookIn look) (standinOf (givenOf given) (now (standin .entry))) (now (table .entry)) (now (titles .entry)) (length (now (out .entry))) (now (canvas .entry)) ⌝ }
     ensures out_left { λ _. ⌜ now (out .exit) ≡ outAfter (lookIn look) (standinOf (givenOf given) (now (standin .entry))) (now (table .entry)) (now (titles .entry)) (length (now (canvas .entry))) (now (out .entry)) ⌝ }
 {
-    let measure = rules::measure_of(look);
-    let profile = rules::profile_of(look);
-    let stands = rules::given_of(given);
+    let measure = numbers::measure_of(look);
+    let profile = numbers::profile_of(look);
+    let stands = numbers::given_of(given);
     let d = tree_format::draw(
         table,
         titles,
@@ -120,7 +120,7 @@ pub extern "C" fn girthladder_dot_with<'a>(
     ensures answered { λ _. ⌜ now (answer .exit) ≡ graphFive (graphAnswer bare (standinOf (givenOf given) (now (standin .entry))) (now (table .entry)) (now (titles .entry)) (length (now (out .entry)))) ⌝ }
     ensures out_left { λ _. ⌜ now (out .exit) ≡ graphAfter bare (standinOf (givenOf given) (now (standin .entry))) (now (table .entry)) (now (titles .entry)) (now (out .entry)) ⌝ }
 {
-    let stands = rules::given_of(given);
+    let stands = numbers::given_of(given);
     let a = tree_format::dot(table, titles, stands, standin, false, out);
     *answer = five::graph_five(a);
 }
@@ -153,7 +153,7 @@ pub extern "C" fn girthladder_fenced_with<'a>(
     ensures answered { λ _. ⌜ now (answer .exit) ≡ graphFive (graphAnswer fenced (standinOf (givenOf given) (now (standin .entry))) (now (table .entry)) (now (titles .entry)) (length (now (out .entry)))) ⌝ }
     ensures out_left { λ _. ⌜ now (out .exit) ≡ graphAfter fenced (standinOf (givenOf given) (now (standin .entry))) (now (table .entry)) (now (titles .entry)) (now (out .entry)) ⌝ }
 {
-    let stands = rules::given_of(given);
+    let stands = numbers::given_of(given);
     let a = tree_format::dot(table, titles, stands, standin, true, out);
     *answer = five::graph_five(a);
 }
@@ -187,8 +187,8 @@ pub extern "C" fn girthladder_read_as(
     ensures { λ _. ⌜ ReadFive (lookIn look) (now (picture .entry)) (now (canvas .entry)) (now (table .entry)) (now (titles .entry))
         (now (canvas .exit)) (now (table .exit)) (now (titles .exit)) (now (answer .exit)) ⌝ }
 {
-    let measure = rules::measure_of(look);
-    let profile = rules::profile_of(look);
+    let measure = numbers::measure_of(look);
+    let profile = numbers::profile_of(look);
     let r = picture::read_as(picture, measure, profile, canvas, table, titles);
     *answer = five::reading_five(r);
 }

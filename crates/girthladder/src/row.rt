@@ -40,9 +40,9 @@ pub extern "C" fn girthladder_rows_with<'a>(
     ensures row_left { λ _. ⌜ now (row .exit) ≡ rowAfter (lookIn look) (standinOf (givenOf given) (now (standin .entry))) (now (table .entry)) (now (titles .entry)) (length (now (out .entry))) (now (row .entry)) ⌝ }
     ensures out_left { λ _. ⌜ now (out .exit) ≡ rowOutAfter (lookIn look) (standinOf (givenOf given) (now (standin .entry))) (now (table .entry)) (now (titles .entry)) (length (now (row .entry))) (now (out .entry)) ⌝ }
 {
-    let measure = rules::measure_of(look);
-    let profile = rules::profile_of(look);
-    let stands = rules::given_of(given);
+    let measure = numbers::measure_of(look);
+    let profile = numbers::profile_of(look);
+    let stands = numbers::given_of(given);
     let d = rows::draw_rows(table, titles, stands, standin, measure, profile, row, out);
     *answer = five::drawing_five(d);
 }

@@ -26,9 +26,9 @@ pub extern "C" fn girthladder_sheets<'a>(
     ensures canvas_left { λ _. ⌜ now (canvas .exit) ≡ sheetsCanvasAfter (lookIn look) width height (standinOf (givenOf given) (now (standin .entry))) (now (table .entry)) (now (titles .entry)) (length (now (out .entry))) (now (canvas .entry)) ⌝ }
     ensures out_left { λ _. ⌜ now (out .exit) ≡ sheetsOutAfter (lookIn look) width height (standinOf (givenOf given) (now (standin .entry))) (now (table .entry)) (now (titles .entry)) (length (now (canvas .entry))) (now (out .entry)) ⌝ }
 {
-    let measure = rules::measure_of(look);
-    let profile = rules::profile_of(look);
-    let stands = rules::given_of(given);
+    let measure = numbers::measure_of(look);
+    let profile = numbers::profile_of(look);
+    let stands = numbers::given_of(given);
     let across = wide(width);
     let down = wide(height);
     let d = sheets::sheets(

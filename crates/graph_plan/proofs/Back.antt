@@ -28,7 +28,7 @@ use Rattle.marks.proofs.Plans.{Rising}
 use Rattle.marks.proofs.Order.{each-from, concat-same, table-order}
 use Rattle.marks.proofs.Back.{nodes-back, columns-few}
 use Rattle.marks.proofs.Picture.{laid}
-use Rattle.graphs.proofs.Concats.{concat-each, concat-concat, mem-each, singles}
+use Rattle.graph_words.proofs.Concats.{concat-each, concat-concat, mem-each, singles}
 use Rattle.graph_plan.specs.Seen.{seenIn, cellsSeen, inOrder, nodeOf, planSeen, readsGraph}
 use Rattle.graph_plan.proofs.Entries.{indent, clear, clear-node, clear-edge, node-seen, edge-seen}
 use Rattle.graph_plan.proofs.Lines.{graph-lines, seen-lines}

@@ -11,7 +11,7 @@ use borrow.Author.Tests.{eq-eqb, ne-eqb, eqb-true, eqb-false, not-true}
 use Rattle.rules.specs.Base.{pick, concat}
 use Rattle.rules.specs.Graph.{escaped}
 use Rattle.rules.proofs.Tests.{both}
-use Rattle.graphs.proofs.Escapes.{quote, line, backslash, other}
+use Rattle.graph_words.proofs.Escapes.{quote, line, backslash, other}
 use Rattle.graph_plan.specs.Label.{opens, said, readBack, stands, escapedWell}
 
 -- how a byte is written: a backslash and a byte that stands for it, or itself

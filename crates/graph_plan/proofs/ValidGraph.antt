@@ -18,7 +18,7 @@ use Rattle.rules.proofs.Chars.{valid-one, following-00}
 use Rattle.rules.proofs.Keeps.{kept-mem}
 use Rattle.rules.proofs.LinesValid.{valid-append}
 use Rattle.rules.proofs.Tests.{both}
-use Rattle.graphs.proofs.Concats.{mem-each}
+use Rattle.graph_words.proofs.Concats.{mem-each}
 use Rattle.marks.proofs.Back.{nodes-back}
 use Rattle.graph_plan.specs.Seen.{nodeOf}
 use Rattle.graph_plan.proofs.ValidLabels.{label-valid}

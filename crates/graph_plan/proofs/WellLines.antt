@@ -9,7 +9,7 @@ use Rattle.rules.specs.Lines.{linesOf}
 use Rattle.rules.specs.Plan.{Node}
 use Rattle.rules.specs.Levels.{Cell, View, view, inRow, children}
 use Rattle.rules.specs.Graph.{fenced, node, edge, entries, graph}
-use Rattle.graphs.proofs.Concats.{mem-each}
+use Rattle.graph_words.proofs.Concats.{mem-each}
 use Rattle.graph_plan.specs.Label.{escapedWell}
 use Rattle.graph_plan.specs.Seen.{labelOf, ofNode}
 use Rattle.graph_plan.proofs.Labels.{title-well}

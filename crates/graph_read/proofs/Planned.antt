@@ -19,7 +19,7 @@ use Rattle.marks.proofs.Points.{mem-from, getD-mem}
 use Rattle.marks.proofs.Walks.{map-same, map-getD}
 use Rattle.put.specs.Put.{Put}
 use Rattle.put.proofs.Puts.{put-length}
-use Rattle.graphs.proofs.Concats.{mem-each}
+use Rattle.graph_words.proofs.Concats.{mem-each}
 use Rattle.graph_plan.specs.Seen.{value, cellOf, ofNode, seenIn, cellsSeen, inOrder, nodeOf, planSeen}
 use Rattle.graph_scan.specs.Held.{held, inColumnOf, planBy, nodeLines, Scanned, Ordered}
 use Rattle.graph_scan.proofs.Orders.{columns-most}

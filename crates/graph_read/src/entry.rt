@@ -23,7 +23,7 @@ fn read_plan(
     requires { ⌜ (valid (now text) ≡ true) × PlanFound (now text) (now seen) (now order) (now found) nodes bytes ⌝ }
     ensures { λ r. ⌜ ReadsGraph (now (text .entry)) (now (table .entry)) (now (titles .entry)) r (now (table .exit)) (now (titles .exit)) ⌝ }
 {
-    if levels::bad_depth(found, nodes) < nodes {
+    if refusals::bad_depth(found, nodes) < nodes {
         return Reading::NoGraph;
     }
     if graph_same::same(text, found, nodes, seen, order) {

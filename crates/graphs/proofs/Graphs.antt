@@ -17,7 +17,7 @@ use Rattle.rules.proofs.Gates.{gate-graph, gate-next, gate-stops}
 use Rattle.levels.specs.Accepted.{afterAll, Accepted}
 use Rattle.levels.specs.Filled.{filled}
 use Rattle.levels.proofs.Accepted.{depth-small}
-use Rattle.levels.proofs.Refused.{graph-all}
+use Rattle.refusals.proofs.Refused.{graph-all}
 use Rattle.levels.proofs.Filled.{filled-at}
 use Rattle.graphs.specs.Entries.{Ready}
 
@@ -33,7 +33,7 @@ ready {T} a C D h e =
     }
 
 -- the rules' answer and memory, of a table that is accepted and of one that is refused: the refusals before 9 are a gate, and
--- `levels::refusal` tells what it makes of Done
+-- `refusals::refusal` tells what it makes of Done
 module _ (form : Form) (s : Standin) (T B l : List ℕ) where
   abbrev needed : ℕ
   needed = length (graph form (replaced s (planOf T B)))

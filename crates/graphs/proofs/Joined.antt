@@ -15,7 +15,7 @@ use Rattle.rules.specs.Plan.{Node}
 use Rattle.rules.specs.Levels.{view}
 use Rattle.rules.specs.Graph.{Form, joined, graph}
 use Rattle.levels.specs.Shown.{Shows}
-use Rattle.graphs.specs.Forms.{formOf}
+use Rattle.graph_words.specs.Forms.{formOf}
 use Rattle.graphs.specs.Entries.{lead, rowEntries, entriesIn, allEntries, gap, closingAt}
 use Rattle.put.specs.Put.{Put}
 use Rattle.graphs.proofs.Entries.{lead-parts}

@@ -1,5 +1,4 @@
 // The graphs: one walk over the plan counts and writes, in both forms.
-use crate::label;
 use rules::Answer;
 use rules::Profile;
 ghost use mathlib.Core.Path.{_≡_};
@@ -12,7 +11,7 @@ ghost use Rattle.rules.specs.Graph.{name, bare, fenced, graph as graphOf};
 ghost use Rattle.rules.specs.Answers.{done, inRoom, graphAnswer, graphAfter};
 ghost use Rattle.levels.specs.Shown.{planShown, Showable};
 ghost use Rattle.put.specs.Put.{Put};
-ghost use Rattle.graphs.specs.Forms.{formOf};
+ghost use Rattle.graph_words.specs.Forms.{formOf};
 ghost use Rattle.graphs.specs.Entries.{lead, spotIn, beginIn, edgeIn, edgesIn, nodeIn, backward, cellEntries, rowEntries, allEntries, closingAt, Ready};
 
 // Puts the name of node k.
@@ -28,7 +27,7 @@ fn name_of(
     requires { ⌜ (k < count (now table)) × (at + length (name (formOf fenced) (spotIn (now table) k)) < 2 ^ 64) ⌝ }
     ensures { λ r. ⌜ Put (name (formOf fenced) (spotIn (now (table .entry)) k)) at (now (out .entry)) (now (out .exit)) r ⌝ }
 {
-    label::name(out, at, table[3 * k], column[k], fenced)
+    graph_words::name(out, at, table[3 * k], column[k], fenced)
 }
 
 // Puts what stands before an entry, and the name of node k, which an entry begins with.
@@ -112,7 +111,7 @@ fn node<'a>(
 {
     let a = begin(out, at, table, column, k, fenced);
     let title = levels::shown_title(table, k, titles, given, standin);
-    label::labelled(out, a, title, fenced)
+    graph_words::labelled(out, a, title, fenced)
 }
 
 // Puts the entries of node k, its own and its edges; its children lie before node `end`.
@@ -288,8 +287,8 @@ pub fn dot<'a>(
     ensures { λ r. ⌜ (r ≡ graphAnswer (formOf fenced) (standinOf given (now (standin .entry))) (now (table .entry)) (now (titles .entry)) (length (now (out .entry))))
         × (now (out .exit) ≡ graphAfter (formOf fenced) (standinOf given (now (standin .entry))) (now (table .entry)) (now (titles .entry)) (now (out .entry))) ⌝ }
 {
-    let refusal = levels::refusal(table, titles, given, standin, Profile::Boxes, false);
-    if rules::done(refusal) {
+    let refusal = refusals::refusal(table, titles, given, standin, Profile::Boxes, false);
+    if numbers::done(refusal) {
         let mut column = [0u32; 256];
         levels::columns(table, table.len() / 3, &mut column);
         return fill(table, titles, given, standin, &column, out, fenced);

@@ -1,6 +1,5 @@
 // The graphs: the crate's own form and the fenced one.
 mod graph;
-mod label;
 
 pub use graph::dot;
 pub use graph::tree_fmt_dot;

@@ -59,8 +59,8 @@ pub fn write_json(table: &[u32], titles: &[u8], out: &mut [u8]) -> Answer
     ensures { λ r. ⌜ (r ≡ jsonAnswer (now (table .entry)) (now (titles .entry)) (length (now (out .entry))))
         × (now (out .exit) ≡ jsonAfter (now (table .entry)) (now (titles .entry)) (now (out .entry))) ⌝ }
 {
-    let refusal = levels::first_refusal(table, titles, false);
-    if rules::done(refusal) {
+    let refusal = refusals::first_refusal(table, titles, false);
+    if numbers::done(refusal) {
         return fill(table, titles, out);
     }
     refusal

@@ -6,8 +6,6 @@ pub mod Empties
 pub mod Nodes
 pub mod Accepted
 pub mod Shown
-pub mod Refused
-pub mod Allowed
 pub mod Runs
 pub mod Tests
 pub mod Between

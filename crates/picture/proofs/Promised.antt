@@ -27,7 +27,7 @@ use Rattle.delivery.proofs.Answers.{unwritten}
 use Rattle.picture_lay.specs.Started.{Started}
 use Rattle.picture_lay.proofs.Refusals.{reading-started, passed, stopped, put-there, not-there}
 use Rattle.picture_sight.specs.Plan.{planSeen}
-use Rattle.picture.specs.Answered.{Picture, Answered, refused, accepted}
+use Rattle.picture_find.specs.Answered.{Picture, Answered, refused, accepted}
 use Rattle.picture.proofs.OnCanvas.{held-cells, cells-there, cells-few}
 use Rattle.picture.proofs.Kept.{allowing, ordinary-with, keeps-drawn, drawn-keeps}
 use Rattle.picture.proofs.Theorems.{accepted-is-drawn, undrawn-is-none, spaced-is-none, empty-is-none}

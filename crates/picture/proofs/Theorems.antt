@@ -24,7 +24,7 @@ use Rattle.marks.proofs.Tests.{ordinary-plan}
 use Rattle.marks.proofs.Delivered.{done-drawn}
 use Rattle.picture_lay.specs.Spaced.{spaced}
 use Rattle.picture_sight.specs.Plan.{planSeen}
-use Rattle.picture.specs.Answered.{Accepted, Refused, misfit, no-node, wrong-depth, other}
+use Rattle.picture_find.specs.Answered.{Accepted, Refused, misfit, no-node, wrong-depth, other}
 use Rattle.picture.proofs.OnCanvas.{placed-valid, seen-is, plan-is}
 use Rattle.picture.proofs.Compared.{shows-drawn, drawn-shows, drawn-unspaced}
 use Rattle.picture.proofs.Fitting.{misfit-none}

@@ -5,8 +5,8 @@ ghost use lib.Dec.{ltb};
 ghost use Rattle.rules.specs.Base.{every};
 ghost use Rattle.rules.specs.Look.{base, allowedIn, lookOf};
 ghost use Rattle.rules.specs.Reader.{Reads};
-ghost use Rattle.picture.specs.Answered.{Picture, anyBytes, Answered};
-use crate::look::look;
+ghost use Rattle.picture_find.specs.Answered.{Picture, anyBytes, Answered};
+use picture_find::look;
 use picture_sight::Sight;
 use rules::Measure;
 use rules::Profile;
@@ -23,7 +23,7 @@ fn drawable(picture: &[u8], profile: Profile, width: usize, spaced: bool) -> boo
     if width == 0 {
         return false;
     }
-    levels::keeps(picture, profile)
+    refusals::keeps(picture, profile)
 }
 
 // The plan that is seen on the cells, in the marks of the profile, whatever its titles hold.
@@ -39,7 +39,7 @@ fn look_as(
     requires { ⌜ Picture (now cells) width lines ⌝ }
     ensures { λ r. ⌜ Answered (anyBytes measure profile) (now (cells .entry)) width lines (now (table .entry)) (now (titles .entry)) r (now (table .exit)) (now (titles .exit)) ⌝ }
 {
-    let g = rules::marks_of(profile);
+    let g = numbers::marks_of(profile);
     let wide = width as u32;
     let high = lines as u32;
     let sight = Sight {
@@ -65,7 +65,7 @@ pub fn read_as(
 {
     let p = picture_lay::start(picture, canvas);
     let answer = p.answer;
-    if 0 < rules::reading_number(answer) {
+    if 0 < numbers::reading_number(answer) {
         return answer;
     }
     if !drawable(picture, profile, p.width, p.spaced) {

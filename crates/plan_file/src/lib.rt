@@ -1,12 +1,6 @@
-// The file form: titles, the table as u32 little-endian, and a 12-byte trailer that points back.
-mod bytes;
+// A plan file drawn: the drawing of the plan that it holds, and what the program `treetext` prints for it.
 mod draw;
 mod print;
 
-pub use bytes::ends_in_tree;
-pub use bytes::few;
-pub use bytes::formed;
-pub use bytes::word;
-pub use bytes::words;
 pub use draw::draw_file;
 pub use print::treetext;

@@ -25,8 +25,8 @@ fn refuse(out: &mut [u8], a: Answer) -> usize
     requires { ⌜ 64 ≤ length (now out) ⌝ }
     ensures { λ r. ⌜ (r ≡ length (refused a)) × (now (out .exit) ≡ laid (refused a) (now (out .entry))) ⌝ }
 {
-    let number = wide(rules::number(a));
-    let second = rules::second(a);
+    let number = wide(numbers::number(a));
+    let second = numbers::second(a);
     let word = put::bytes(out, 0, b"refused ");
     let next = ended(out, word, number, b' ');
     ended(out, next, second, b'\n')
@@ -40,8 +40,8 @@ pub fn treetext(file: &[u8], canvas: &mut [u32; 16384], out: &mut [u8; 65536]) -
 {
     let d = draw_file(file, canvas, out);
     let a = d.answer;
-    if rules::done(a) {
-        return rules::second(a);
+    if numbers::done(a) {
+        return numbers::second(a);
     }
     refuse(out, a)
 }

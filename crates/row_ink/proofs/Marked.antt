@@ -11,7 +11,6 @@ use lib.ListN.{length, getD, List·getD-eq-default}
 use borrow.Author.Tests.{eq-eqb, ne-eqb, le-leb, lt-leb, lt-ltb, le-ltb}
 use Rattle.rules.specs.Base.{pick}
 use Rattle.rules.specs.Drawing.{Marks}
-use Rattle.marks.specs.Spot as Rules
 use Rattle.marks.specs.Spot.{spotMark}
 use Rattle.row_shapes.specs.declared.shape.Wire.{Wire}
 use Rattle.row_shapes.specs.declared.shape.Edge.{Edge}

@@ -27,7 +27,7 @@ use Rattle.rules.proofs.Lists.{length-each}
 use Rattle.rules.proofs.Gates.{Gate, lets, stops, gate-plan, gate-next, gate-stops}
 use Rattle.levels.specs.Shown.{planShown}
 use Rattle.levels.specs.Accepted.{afterAll}
-use Rattle.levels.proofs.Refused.{plan-all}
+use Rattle.refusals.proofs.Refused.{plan-all}
 use Rattle.tree_format.specs.Drawn.{nothing, Written}
 use Rattle.rows.specs.Rowed.{rowsAnswer, Stored, Rowed}
 

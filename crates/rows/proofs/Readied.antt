@@ -18,8 +18,8 @@ use Rattle.levels.specs.Shown.{planShown, Showable}
 use Rattle.marks.specs.Lawful.{Lawful}
 use Rattle.tree_view.proofs.Limits.{canvas-height-le}
 use Rattle.canvas_text.proofs.EmitText.{text-size}
-use Rattle.text_size.specs.declared.whole.Numbers.{Numbers}
-use Rattle.tree_format.specs.Sized.{Measured, Laid}
+use Rattle.tree_view.specs.declared.numbers.Numbers.{Numbers}
+use Rattle.tree_canvas.specs.Sized.{Measured, Laid}
 use Rattle.tree_format.proofs.Readied.{known}
 use Rattle.row_cells.specs.Band.{Ready}
 use Rattle.row_walk.specs.Told.{textFrom, Added, Lent}

@@ -13,7 +13,7 @@ use Rattle.rules.specs.Drawing.{Marks, text}
 use Rattle.rules.specs.Answers.{done, drew, afterLarge, afterCanvas, inRoom, lastRow}
 use Rattle.rules.specs.declared.Answer.{Answer}
 use Rattle.rules.specs.declared.Drawing.{Drawing}
-use Rattle.text_size.specs.declared.whole.Numbers.{Numbers}
+use Rattle.tree_view.specs.declared.numbers.Numbers.{Numbers}
 use Rattle.tree_format.specs.Drawn.{sizes}
 use Rattle.row_cells.specs.Band.{Ready}
 use Rattle.row_walk.specs.declared.whole.Sheet.{Sheet}

@@ -16,7 +16,7 @@ ghost use Rattle.marks.specs.Lawful.{Lawful};
 ghost use Rattle.size_laws.specs.Even.{Level};
 ghost use Rattle.size_laws.specs.Needed.{Needed};
 ghost use Rattle.tree_format.specs.Drawn.{Written};
-ghost use Rattle.tree_format.specs.Sized.{Measured, Laid};
+ghost use Rattle.tree_canvas.specs.Sized.{Measured, Laid};
 ghost use Rattle.row_walk.specs.Told.{Lent};
 ghost use Rattle.rows.specs.Rowed.{ReadyBy, sheetOf, Stored, Rowed};
 use row_walk::Sheet;
@@ -25,7 +25,7 @@ use rules::Drawing;
 use rules::Measure;
 use rules::Profile;
 use rules::Style;
-use text_size::Numbers;
+use tree_view::Numbers;
 
 // The walk over a plan with these numbers, its text stored or only counted.
 fn sheet_of(n: Numbers, store: bool) -> Sheet
@@ -350,9 +350,9 @@ pub fn draw_rows<'a>(
     ensures row_left { λ r. ⌜ now (row .exit) ≡ rowAfter (lookOf measure profile) (standinOf given (now (standin .entry))) (now (table .entry)) (now (titles .entry)) (length (now (out .entry))) (now (row .entry)) ⌝ }
     ensures out_left { λ r. ⌜ now (out .exit) ≡ rowOutAfter (lookOf measure profile) (standinOf given (now (standin .entry))) (now (table .entry)) (now (titles .entry)) (length (now (row .entry))) (now (out .entry)) ⌝ }
 {
-    let refusal = levels::refusal(table, titles, given, standin, profile, true);
-    if rules::done(refusal) {
-        let marks = rules::marks_of(profile);
+    let refusal = refusals::refusal(table, titles, given, standin, profile, true);
+    if numbers::done(refusal) {
+        let marks = numbers::marks_of(profile);
         let style = Style {
             measure,
             given,

@@ -1,21 +1,9 @@
 // The limits of document 01 and the answers that all crates share. Each answer's number and second number: specs/Numbers.antt.
 mod look;
-mod numbers;
 mod style;
-mod switches;
 
 pub use look::Glyphs;
-pub use look::marks_of;
-pub use look::printed;
-pub use numbers::done;
-pub use numbers::number;
-pub use numbers::reading_number;
-pub use numbers::reading_second;
-pub use numbers::second;
 pub use style::Style;
-pub use switches::given_of;
-pub use switches::measure_of;
-pub use switches::profile_of;
 
 pub const MOST_NODES: usize = 256;
 

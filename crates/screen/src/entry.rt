@@ -28,7 +28,7 @@ pub fn fits(table: &[u32], titles: &[u8], n: u32, m: u32) -> Fitting
     ensures { λ r. ⌜ r ≡ fitting (now (table .entry)) (now (titles .entry)) n m ⌝ }
 {
     let refusal = first_refusal(table, titles);
-    if !rules::done(refusal) {
+    if !numbers::done(refusal) {
         return Fitting {
             answer: refusal,
             yes: false,

@@ -11,11 +11,11 @@ fn node_refusal(table: &[u32], nodes: usize, titles: &[u8]) -> Answer
     requires { ⌜ (nodes ≡ count (now table)) × (length (now table) ≡ 3 * count (now table)) ⌝ }
     ensures { λ r. ⌜ r ≡ nodeRefusal (now (table .entry)) (now (titles .entry)) ⌝ }
 {
-    let d = levels::bad_depth(table, nodes);
+    let d = refusals::bad_depth(table, nodes);
     if d < nodes {
         return Answer::Depth(d);
     }
-    let t = levels::bad_title(table, nodes, titles);
+    let t = refusals::bad_title(table, nodes, titles);
     if t < nodes {
         return Answer::Title(t);
     }

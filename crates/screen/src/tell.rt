@@ -20,8 +20,8 @@ pub fn told(f: Fitting) -> [u64; 5]
 {
     let a = f.answer;
     [
-        rules::number(a) as u64,
-        rules::second(a) as u64,
+        numbers::number(a) as u64,
+        numbers::second(a) as u64,
         one_if(f.yes),
         f.read as u64,
         0,

@@ -24,7 +24,7 @@ use Rattle.rules.specs.declared.Profile.{Profile}
 use Rattle.rules.proofs.Gates.{gate-plan, gate-passed, test-passed}
 use Rattle.levels.specs.Shown.{planShown}
 use Rattle.levels.proofs.Shown.{shows}
-use Rattle.levels.proofs.Refused.{plan-all, all-showable}
+use Rattle.refusals.proofs.Refused.{plan-all, all-showable}
 use Rattle.marks.specs.Lawful.{Lawful}
 use Rattle.marks.proofs.Text.{held}
 use Rattle.marks.proofs.Ends.{lawful-in}

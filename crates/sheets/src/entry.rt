@@ -66,7 +66,7 @@ pub fn sheets<'a>(
     }
     let painted = tree_format::paint(table, titles, given, standin, measure, profile, canvas);
     let answer = painted.answer;
-    if rules::done(answer) {
+    if numbers::done(answer) {
         let cut = Cut {
             width: painted.width,
             height: painted.height,

@@ -7,7 +7,6 @@ use Prim.Native.Nat.{ℕ, _+_, _*_, _-_, _/_, _≤_, _<_, min}
 use native.Mathlib.Omega.{arith}
 use lib.ListN.{length, getD}
 use borrow.Author.Tests.{eq-eqb}
-use Rattle.rules.specs.Measures as M
 use Rattle.rules.specs.Base.{pick, halfUp, total}
 use Rattle.rules.specs.Utf8.{points, valid}
 use Rattle.rules.specs.Plan.{Node, nodeAt}

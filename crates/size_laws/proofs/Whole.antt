@@ -12,7 +12,6 @@ use Rattle.rules.specs.Utf8.{valid}
 use Rattle.rules.specs.Plan.{Node, nodeAt}
 use Rattle.rules.specs.Levels.{view}
 use Rattle.rules.specs.Measures.{canvasWidth, canvasHeight, rowOffset, columnOffset}
-use Rattle.rules.specs.Drawing as D
 use Rattle.rules.specs.Drawing.{Marks, endOf, rowText, picture, text}
 use Rattle.rules.proofs.Text.{row-same}
 use Rattle.rules.proofs.Lists.{total-same}

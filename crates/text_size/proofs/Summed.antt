@@ -31,7 +31,7 @@ use Rattle.size_laws.specs.Columns.{bandSize}
 use Rattle.size_laws.specs.Size.{tallyIn, headEnd, rowsBytes}
 use Rattle.size_laws.proofs.Whole.{band-bytes, text-bytes}
 use Rattle.text_size.specs.declared.across.Place.{Place}
-use Rattle.text_size.specs.declared.whole.Numbers.{Numbers}
+use Rattle.tree_view.specs.declared.numbers.Numbers.{Numbers}
 use Rattle.text_size.specs.Across.{rowAt, Across}
 use Rattle.text_size.specs.Told.{placeAt, Told}
 use Rattle.text_size.proofs.Columns.{times-few, margin-is, sound}

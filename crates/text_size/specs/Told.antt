@@ -9,7 +9,7 @@ use Rattle.row_strips.specs.Row.{bendIn, middleIn}
 use Rattle.row_strips.specs.Known.{Known}
 use Rattle.size_laws.specs.Even.{Level}
 use Rattle.text_size.specs.declared.across.Place.{Place}
-use Rattle.text_size.specs.declared.whole.Numbers.{Numbers}
+use Rattle.tree_view.specs.declared.numbers.Numbers.{Numbers}
 
 -- the place of row i, e being the bytes of a mark after its first
 abbrev pub placeAt : Numbers → (ys : List ℕ) (i e : ℕ) → Place

@@ -4,5 +4,4 @@ mod down;
 mod letters;
 mod whole;
 
-pub use whole::Numbers;
 pub use whole::needed;

@@ -15,18 +15,7 @@ ghost use Rattle.size_laws.specs.Needed.{Needed};
 ghost use Rattle.text_size.specs.Told.{placeAt, Told};
 use crate::across::Place;
 use crate::down;
-use rules::Style;
-
-// How it is drawn, how many nodes, columns and rows there are, the canvas' size, and the bytes that are lent for the text.
-pub struct Numbers {
-    pub style: Style,
-    pub nodes: usize,
-    pub ncols: u32,
-    pub nrows: u32,
-    pub width: u32,
-    pub height: u32,
-    pub room: usize,
-}
+use tree_view::Numbers;
 
 // The bytes of a mark after its first.
 fn mark_more(v: u32) -> u32

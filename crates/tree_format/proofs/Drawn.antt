@@ -25,7 +25,7 @@ use Rattle.rules.proofs.Gates.{gate-plan, gate-next, gate-stops}
 use Rattle.rules.proofs.Painted.{painted-lets, painted-past, was-stopped}
 use Rattle.levels.specs.Accepted.{afterAll}
 use Rattle.levels.specs.Shown.{planShown, Showable}
-use Rattle.levels.proofs.Refused.{plan-all, all-showable}
+use Rattle.refusals.proofs.Refused.{plan-all, all-showable}
 use Rattle.tree_format.specs.Drawn.{nothing, Written, cellsAnswer, Fills}
 
 -- the last step, as its two ends show it
@@ -57,7 +57,7 @@ module _ (len : List ℕ → ℕ) (marks : Marks) (p : List Node) (u : ℕ) (old
     left = rw (le-ltb mostCells (area len (view p)) l, le-ltb (length old) (area len (view p)) h);
   }
 
--- the refusals that come before are a gate, and `levels::refusal` tells what it makes of Done
+-- the refusals that come before are a gate, and `refusals::refusal` tells what it makes of Done
 module _ (m : Measure) (f : Profile) (given : Bool) (S T B : List ℕ) (old : List ℕ) where
   abbrev look : Look
   look = lookOf m f

@@ -17,7 +17,7 @@ use Rattle.rules.proofs.Gates.{gate-plan, gate-passed}
 use Rattle.rules.proofs.Kept.{kept-in, end-in, text-kept}
 use Rattle.levels.specs.Shown.{planShown}
 use Rattle.levels.proofs.Shown.{shows}
-use Rattle.levels.proofs.Refused.{plan-all, all-showable, shown-keeps}
+use Rattle.refusals.proofs.Refused.{plan-all, all-showable, shown-keeps}
 
 pub plain-bytes : (m : Measure) (given : Bool) (S T B : List ℕ) (cells room : ℕ) → done (answer (lookOf m Profile.Plain) (standinOf given S) T B cells room) ≡ true
     → every printed (text (lenOf m) plain (planShown given S T B)) ≡ true

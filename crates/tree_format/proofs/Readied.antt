@@ -19,9 +19,9 @@ use Rattle.marks.specs.Lawful.{Lawful}
 use Rattle.text.proofs.Counted.{len-most}
 use Rattle.tree_view.specs.Sizes.{middleAt}
 use Rattle.row_strips.specs.Known.{Known}
-use Rattle.text_size.specs.declared.whole.Numbers.{Numbers}
-use Rattle.tree_format.specs.Sized.{Measured, Laid, Arrays, centresOf}
-use Rattle.tree_format.proofs.Measures.{column-of, arrays}
+use Rattle.tree_view.specs.declared.numbers.Numbers.{Numbers}
+use Rattle.tree_canvas.specs.Sized.{Measured, Laid, Arrays, centresOf}
+use Rattle.tree_canvas.proofs.Measures.{column-of, arrays}
 
 pub known : {n : Numbers} {S T B C L G cx xs ys : List ℕ} → Lawful (lenOf (n .style .measure)) (marksIn (n .style .marks)) → Showable (n .style .given) S T B → n .nodes ≡ count T → 0 < n .nodes
     → Measured (lenOf (n .style .measure)) T (planShown (n .style .given) S T B) C L G → Laid n (view (planShown (n .style .given) S T B)) cx ys

@@ -2,6 +2,7 @@
 mod cell;
 mod heights;
 mod lines;
+mod numbers;
 mod size;
 mod widths;
 
@@ -16,6 +17,7 @@ pub use heights::row_centers;
 pub use heights::tree_rows;
 pub use lines::measured;
 pub use lines::measures;
+pub use numbers::Numbers;
 pub use size::area;
 pub use size::index_digits;
 pub use widths::Columns;

@@ -5,7 +5,7 @@ use native.Mathlib.Omega.{arith}
 use lib.ListN.{length}
 use Rattle.desk_page.specs.Pages.{onErr}
 use Rattle.desk_page.proofs.Pages.{put-page}
-use Rattle.desk_answer.proofs.Said.{about-short}
+use Rattle.desk_options.proofs.Said.{about-short}
 use borrow.Author.Needs.{needs}
 use Rattle.desk_answer.proofs.printed.answer.Statement.{statement}
 use Rattle.desk_answer.proofs.printed.answer.Tie as tie

@@ -5,7 +5,7 @@ use native.Mathlib.Omega.{arith}
 use Rattle.desk_page.specs.Pages.{onOut}
 use Rattle.desk_page.proofs.Pages.{put-page}
 use Rattle.desk_help.specs.Help.{helpWords}
-use Rattle.desk_answer.specs.declared.Source.{Source}
+use Rattle.desk_options.specs.declared.options.Source.{Source}
 use borrow.Author.Needs.{needs}
 use Rattle.desk_answer.proofs.printed.asked.Statement.{statement}
 use Rattle.desk_answer.proofs.printed.asked.Tie as tie

@@ -1,6 +1,6 @@
 -- What is written, finished.
 use Rattle.rules.specs.Standin.{standinOf}
-use Rattle.graphs.specs.Forms.{formOf}
+use Rattle.graph_words.specs.Forms.{formOf}
 use Rattle.desk_draw.specs.Drawn.{graphPage}
 use Rattle.desk_draw.proofs.Laid.{graph-written}
 use borrow.Author.Needs.{needs}

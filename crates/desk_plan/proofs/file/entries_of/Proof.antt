@@ -2,7 +2,7 @@
 use mathlib.Core.Path.{_∙_}
 use native.Mathlib.Omega.{arith}
 use Rattle.rules.specs.File.{countIn}
-use Rattle.plan_file.proofs.Files.{whole-form}
+use Rattle.file_words.proofs.Files.{whole-form}
 use Rattle.desk_plan.specs.Loads.{entriesIn}
 use borrow.Author.Needs.{needs}
 use Rattle.desk_plan.proofs.file.entries_of.Statement.{statement}

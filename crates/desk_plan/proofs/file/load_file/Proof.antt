@@ -2,7 +2,7 @@
 use mathlib.Core.Path.{sym, _∙_}
 use native.Mathlib.Omega.{arith}
 use lib.Seq.{length-take-le}
-use Rattle.plan_file.proofs.Files.{whole-form}
+use Rattle.file_words.proofs.Files.{whole-form}
 use Rattle.desk_plan.proofs.Filed.{few-entries, offset-small, file-loads}
 use borrow.Author.Needs.{needs}
 use Rattle.desk_plan.proofs.file.load_file.Statement.{statement}

@@ -2,7 +2,7 @@
 use mathlib.Core.Path.{_∙_}
 use native.Mathlib.Omega.{arith}
 use Rattle.rules.specs.File.{offsetIn}
-use Rattle.plan_file.proofs.Files.{whole-form}
+use Rattle.file_words.proofs.Files.{whole-form}
 use borrow.Author.Needs.{needs}
 use Rattle.desk_plan.proofs.file.offset_of.Statement.{statement}
 use Rattle.desk_plan.proofs.file.offset_of.Tie as tie

@@ -2,7 +2,7 @@
 use borrow.Author.Needs.{needs}
 use native.Mathlib.Omega.{arith}
 use Rattle.rules.specs.Graph.{name}
-use Rattle.graphs.specs.Forms.{formOf}
+use Rattle.graph_words.specs.Forms.{formOf}
 use Rattle.graphs.specs.Entries.{spotIn}
 use Rattle.put.proofs.Puts.{then}
 use Rattle.graphs.proofs.Entries.{lead-parts, length-lead}

@@ -3,7 +3,7 @@ use borrow.Author.Needs.{needs}
 use native.Mathlib.Omega.{arith}
 use Rattle.levels.specs.Shown.{planShown}
 use Rattle.put.proofs.Puts.{then}
-use Rattle.graphs.specs.Forms.{formOf}
+use Rattle.graph_words.specs.Forms.{formOf}
 use Rattle.graphs.specs.Entries.{cellEntries}
 use Rattle.graphs.proofs.Entries.{length-cell}
 use Rattle.graphs.proofs.graph.cell.Statement.{statement}

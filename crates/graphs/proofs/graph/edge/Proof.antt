@@ -1,7 +1,7 @@
 -- The pieces are the edge by its parts; each fits because the edge does.
 use borrow.Author.Needs.{needs}
 use native.Mathlib.Omega.{arith}
-use Rattle.graphs.specs.Forms.{formOf}
+use Rattle.graph_words.specs.Forms.{formOf}
 use Rattle.graphs.specs.Entries.{spotIn}
 use Rattle.put.proofs.Puts.{then}
 use Rattle.graphs.proofs.Entries.{edge-led, length-edge}

@@ -4,7 +4,7 @@ use Prim.Native.Nat.{_≤_, _<_, _+_}
 use native.Mathlib.Omega.{arith}
 use Rattle.rules.specs.Plan.{depthIn}
 use Rattle.levels.specs.Cells.{previousCell}
-use Rattle.graphs.specs.Forms.{formOf}
+use Rattle.graph_words.specs.Forms.{formOf}
 use Rattle.graphs.specs.Entries.{edgeIn, edgesIn, backward}
 use Rattle.put.proofs.Puts.{Left, all, step, fits, end}
 use Rattle.graphs.proofs.Backward.{onward, met, edges-some, edges-none}

@@ -9,7 +9,7 @@ use Rattle.levels.proofs.Shown.{shows, rows-view}
 use Rattle.rules.specs.Levels.{view}
 use Rattle.levels.proofs.Accepted.{depth-small}
 use Rattle.put.specs.Put.{Put}
-use Rattle.graphs.specs.Forms.{formOf}
+use Rattle.graph_words.specs.Forms.{formOf}
 use Rattle.graphs.specs.Entries.{lead, entriesIn}
 use Rattle.put.proofs.Puts.{idle, then, put-length}
 use Rattle.graphs.proofs.AllRows.{no-rows, one-row-more, row-fits}

@@ -1,7 +1,7 @@
 -- What the table and the columns say of node k is its place.
 use borrow.Author.Needs.{needs}
 use Rattle.rules.specs.Graph.{name}
-use Rattle.graphs.specs.Forms.{formOf}
+use Rattle.graph_words.specs.Forms.{formOf}
 use Rattle.graphs.specs.Entries.{spotIn}
 use Rattle.put.proofs.Puts.{room}
 use Rattle.graphs.proofs.Entries.{row-small, column-small, name-read}

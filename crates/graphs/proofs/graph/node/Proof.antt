@@ -4,7 +4,7 @@ use mathlib.Core.Path.{ap}
 use native.Mathlib.Omega.{arith}
 use lib.ListN.{length}
 use Rattle.levels.proofs.Accepted.{title-fits, node-fits}
-use Rattle.graphs.specs.Forms.{formOf, labelledIn}
+use Rattle.graph_words.specs.Forms.{formOf, labelledIn}
 use Rattle.put.proofs.Puts.{then}
 use Rattle.graphs.proofs.Entries.{node-read, length-read}
 use Rattle.graphs.proofs.graph.node.Statement.{statement}

@@ -8,7 +8,7 @@ use Rattle.rules.specs.Base.{concat}
 use Rattle.levels.specs.Shown.{planShown}
 use Rattle.levels.proofs.Shown.{shows}
 use Rattle.levels.specs.Cells.{cellIn}
-use Rattle.graphs.specs.Forms.{formOf}
+use Rattle.graph_words.specs.Forms.{formOf}
 use Rattle.graphs.specs.Entries.{lead, cellEntries, rowEntries}
 use Rattle.put.proofs.Puts.{Left, all, step, fits, end}
 use Rattle.graphs.proofs.Rows.{rowFrom, row-whole, reached, row-cell, row-out}

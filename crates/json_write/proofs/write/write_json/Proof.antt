@@ -2,7 +2,7 @@
 use mathlib.Core.Path.{sym, _∙_}
 use mathlib.Core.Bool.{false}
 use Rattle.levels.proofs.Accepted.{checked-accepted}
-use Rattle.levels.proofs.Refused.{said}
+use Rattle.refusals.proofs.Refused.{said}
 use Rattle.json_write.proofs.Answers.{accepted-answer, refused-answer}
 use borrow.Author.Needs.{needs}
 use Rattle.json_write.proofs.write.write_json.Statement.{statement}

@@ -6,7 +6,7 @@ use Rattle.rules.specs.Look.{lenOf, allowedIn}
 use Rattle.rules.specs.declared.Profile.{Profile}
 use Rattle.marks.specs.Lawful.{Lawful}
 use Rattle.marks.proofs.Ends.{lawful-in}
-use Rattle.picture.specs.Answered.{Answered}
+use Rattle.picture_find.specs.Answered.{Answered}
 use borrow.Author.Needs.{needs}
 use Rattle.picture.proofs.entry.look_as.Statement.{statement}
 use Rattle.picture.proofs.entry.look_as.Tie as tie

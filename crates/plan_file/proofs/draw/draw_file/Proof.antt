@@ -4,7 +4,7 @@ use native.Mathlib.Omega.{arith}
 use lib.ListN.{length}
 use borrow.Author.Needs.{needs}
 use borrow.Author.Tests.{not-true, not-false}
-use Rattle.plan_file.proofs.Files.{whole-form, table-read, titles-read, offset-fits, file-drawn, file-painted, file-written, broken-drawn, broken-painted, broken-written}
+use Rattle.file_words.proofs.Files.{whole-form, table-read, titles-read, offset-fits, file-drawn, file-painted, file-written, broken-drawn, broken-painted, broken-written}
 use Rattle.plan_file.proofs.draw.draw_file.Statement.{statement}
 use Rattle.plan_file.proofs.draw.draw_file.Tie as tie
 

@@ -3,7 +3,7 @@ use mathlib.Core.Path.{sym}
 use native.Mathlib.Omega.{arith}
 use lib.Seq.{length-take-le}
 use borrow.Author.Needs.{needs}
-use Rattle.plan_file.proofs.Files.{front, front-length}
+use Rattle.file_words.proofs.Files.{front, front-length}
 use Rattle.plan_file.proofs.draw.draw_words.Statement.{statement}
 use Rattle.plan_file.proofs.draw.draw_words.Tie as tie
 

@@ -2,7 +2,7 @@
 use mathlib.Core.Path.{_≡_, sym, _∙_}
 use mathlib.Core.Bool.{true}
 use Rattle.rules.specs.Standin.{standinOf}
-use Rattle.levels.proofs.Refused.{said, all-showable, all-some}
+use Rattle.refusals.proofs.Refused.{said, all-showable, all-some}
 use Rattle.marks.proofs.Ends.{lawful-in}
 use Rattle.size_laws.proofs.Profiles.{level-of}
 use Rattle.rows.proofs.Ends.{passed, refused}

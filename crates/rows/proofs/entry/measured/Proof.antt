@@ -11,7 +11,7 @@ use Rattle.tree_view.specs.declared.heights.Rows.{Rows}
 use Rattle.tree_view.proofs.Limits.{d-le, columns-le, rows-le}
 use Rattle.tree_view.proofs.Ruled.{column-offset-at}
 use Rattle.tree_view.proofs.Whole.{digits-asks, digits-ruled, columns-ask, rows-ask, width-asks, width-answers, height-asks, height-answers}
-use Rattle.tree_format.proofs.Measures.{columns-answered, rows-answered}
+use Rattle.tree_canvas.proofs.Measures.{columns-answered, rows-answered}
 use borrow.Author.Needs.{needs}
 use Rattle.rows.proofs.entry.measured.Statement.{statement}
 use Rattle.rows.proofs.entry.measured.Tie as tie
