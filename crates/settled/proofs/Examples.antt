@@ -1,7 +1,7 @@
 -- Document 01's "Table of settled examples", and examples of document 02's requests: all that is drawn, read back or cut into sheets, each an
--- entry of a table under one claim. What is soon computed, and P3, P5, P6 and P12 with it, is an entry of the rules' own table
--- (crates/rules/proofs/Examples.antt). P7, P8, P10 and P11 go by the reader of Candidate.antt; that what it does not find no ordinary plan draws
--- is `reads-right` of crate marks.
+-- entry of a table under one claim. What is soon computed, and P3, P5, P6, P11 and P12 with it, is an entry of the rules' own table
+-- (crates/rules/proofs/Examples.antt). P7, P8 and P10 go by the reader of Candidate.antt; that what it does not find no ordinary plan draws is
+-- `reads-right` of crate marks.
 use mathlib.Core.List.{List, [], _∷_}
 use Prim.Native.String.{String}
 use Rattle.rules.specs.Lines.{bytes}
