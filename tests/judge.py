@@ -7,7 +7,7 @@ put as a plain one, has to be what the second reading draws. With a stand-in the
 replaced. A drawing that is made row by row is held to the same text, of which the lent row has to hold the last line. Nothing here runs
 our code.
 """
-import functools, itertools, os, re, shutil, struct, subprocess, sys
+import array, functools, itertools, operator, os, re, shutil, struct, subprocess, sys
 
 ROOT = os.path.dirname(os.path.dirname(os.path.abspath(__file__)))
 SHARED = os.path.join(os.path.dirname(ROOT), 'shared')
@@ -76,10 +76,17 @@ def printed(text):
 
 def length(look): return rules.points if look & FITTED else rules.octets
 def marks(look): return rules.PLAIN if look & PLAIN else rules.BOXES
-def view(plan, look=BYTES): return rules.View(plan, length(look))
-def text(plan, look=BYTES): return rules.text(plan, length(look), marks(look))
+def view(plan, look=BYTES): return viewed(tuple(plan), look & FITTED)
+def text(plan, look=BYTES): return drawn(tuple(plan), look & (FITTED + PLAIN))
 def draw(table, titles, cells, room): return rules.draw(table, titles, cells, room, roots=True)
 def ordinary(plan, look=BYTES): return rules.ordinary(plan, length(look), marks(look), roots=True)
+
+
+# A plan is measured and drawn for what a request lends, and again for what it must get.
+@functools.lru_cache(1024)
+def viewed(plan, look): return rules.View(plan, length(look))
+@functools.lru_cache(8192)
+def drawn(plan, look): return rules.text(plan, length(look), marks(look))
 
 
 @functools.lru_cache(4096)
@@ -182,7 +189,7 @@ class Request:
             drawing = text(self.plan, self.look)
             assert not self.look & PLAIN or drawing == plainly(crate)
             crate = drawing
-        cells = [ord(c) for row in crate.decode().split('\n')[:-1] for c in row.ljust(width)]
+        cells = on_canvas(crate.decode().split('\n')[:-1], width)
         assert len(cells) == width * height
         cells = cells[-self.cells:]  # all of them; (iii) or the last row
         if len(crate) > self.lent2: return rules.ROOM, len(crate), none, cells, b''
@@ -274,7 +281,7 @@ class Picture:
         need = width * len(rows)
         if need > rules.LIMIT: return rules.LARGE, 0, [], [], b''
         if need > self.lent1: return rules.CANVAS, need, [], [], b''
-        cells = [ord(c) for row in rows for c in row.ljust(width)]
+        cells = on_canvas(rows, width)
         plan = read(self.picture, self.look)
         if not isinstance(plan, list): return plan, 0, cells, [], b''
         table, titles = laid(plan)
@@ -409,12 +416,23 @@ def graph_leads_back(plan):
     return not writable(plan) or read_fenced(fenced(plan)) == plan
 
 
+def on_canvas(rows, width):
+    """The cells of these rows: their code points, each row padded with spaces."""
+    return array.array('I', ''.join(row.ljust(width) for row in rows).encode('utf-32-' + sys.byteorder[0] + 'e'))
+
+
+POWERS = [pow(31, k, PRIME) for k in reversed(range(4096))]
+THIRTIETH = pow(30, -1, PRIME)
+
+
 def left(begun, lent, fill):
-    """The sum of lent memory that begins so and is `fill` for the rest: s = s * 31 + v over all, modulo PRIME."""
+    """The sum of lent memory that begins so and is `fill` for the rest: s = s * 31 + v over all, modulo PRIME; 4,096 at once."""
     s = 0
-    for v in begun: s = (s * 31 + v) % PRIME
+    for at in range(0, len(begun), len(POWERS)):
+        some = begun[at:at + len(POWERS)]
+        s = (s * pow(31, len(some), PRIME) + sum(map(operator.mul, some, POWERS[-len(some):]))) % PRIME
     grown = pow(31, lent - len(begun), PRIME)
-    return (s * grown + fill * (grown - 1) * pow(30, -1, PRIME)) % PRIME
+    return (s * grown + fill * (grown - 1) * THIRTIETH) % PRIME
 
 
 class Crate:

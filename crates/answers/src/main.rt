@@ -1,26 +1,21 @@
 // Answers many requests in one run, for tests: the numbers of each answer, and a checksum of all lent memory.
-mod fenced;
-mod json_text;
-mod lent;
-mod line;
-mod question;
 mod row;
 mod sheet;
 
-ghost use Prim.Native.Nat.{_≤_};
-ghost use lib.ListN.{length};
+use answer_lines::lent;
+use answer_lines::line;
+use answer_lines::plan::bad;
+use answer_lines::plan::plan_in;
+use answer_lines::plan::standin_in;
+use answer_questions::fenced;
+use answer_questions::json_text;
+use answer_questions::question;
 use file_words::word;
 use file_words::words;
 use rules::Answer;
 use rules::Drawing;
 use rules::Reading;
 use text::wide;
-
-// Ends the run at a request that is none.
-pub fn bad() -> bool {
-    console::print(b"bad\n");
-    false
-}
 
 // The kinds of request, and the looks that each takes: 1, fitted boxes, and 2, plain characters, for a drawing, its sheets and a picture;
 // 4, a stand-in, for a drawing, its sheets and a graph.
@@ -112,40 +107,6 @@ fn draw_plan<'a>(
     line::print_graph(graph(kind, look, table, titles, standin, out));
 }
 
-// Where the titles of a payload's plan end, and how many entries its table has.
-pub struct Plan {
-    pub end: usize,
-    pub entries: usize,
-}
-
-// Those of a payload that is long enough and has whole entries, at most as many as this; else 0 and 0.
-pub fn plan_in(payload: &[u8], most: usize) -> Plan
-    ensures { λ r. ⌜ (r .end ≤ length (now (payload .entry))) × (r .entries ≤ most) ⌝ }
-{
-    let none = Plan { end: 0, entries: 0 };
-    let size = payload.len();
-    if size < 4 {
-        return none;
-    }
-    let bytes = wide(word(payload, 0));
-    if 262144 < bytes {
-        return none;
-    }
-    if size - 4 < bytes {
-        return none;
-    }
-    let end = bytes + 4;
-    let left = size - end;
-    if left % 4 != 0 {
-        return none;
-    }
-    let entries = left / 4;
-    if most < entries {
-        return none;
-    }
-    Plan { end, entries }
-}
-
 // The titles and the table of a payload.
 fn plan_request<'a>(
     kind: u32,
@@ -173,24 +134,6 @@ fn plan_request<'a>(
         out,
     );
     true
-}
-
-// Where the stand-in ends that a payload begins with, if there is a whole one that is not too long; else 0.
-pub fn standin_in(payload: &[u8]) -> usize
-    ensures { λ r. ⌜ r ≤ length (now (payload .entry)) ⌝ }
-{
-    let size = payload.len();
-    if size < 4 {
-        return 0;
-    }
-    let bytes = wide(word(payload, 0));
-    if 4096 < bytes {
-        return 0;
-    }
-    if size - 4 < bytes {
-        return 0;
-    }
-    bytes + 4
 }
 
 // The stand-in that a payload begins with, and the plan after it.

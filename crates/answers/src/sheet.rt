@@ -1,7 +1,7 @@
 // Sheets: a width and a height, the stand-in if the look says so, and the plan.
-use crate::line;
-use crate::plan_in;
-use crate::standin_in;
+use answer_lines::line;
+use answer_lines::plan::plan_in;
+use answer_lines::plan::standin_in;
 use file_words::word;
 use file_words::words;
 use text::wide;

@@ -1,0 +1,1 @@
+// Laws only: the documents' examples, computed by the checker from the rules. No code.
