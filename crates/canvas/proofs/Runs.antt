@@ -1,7 +1,7 @@
 -- A run of marks stored in a row: one more at its end, what falls past the row's end, and what each cell of the row then holds.
 -- `sets` stores one mark after another, and a store past the end changes nothing.
 use mathlib.Core.Path.{_≡_, ap, sym, _∙_}
-use mathlib.Core.List.{List, [], _∷_, _++_}
+use mathlib.Core.List.{List, [], _∷_}
 use Prim.Native.Nat.{ℕ, suc, _+_, _-_, _≤_, _<_, min, max}
 use native.Mathlib.Nat.{sub-self}
 use native.Mathlib.Numerals.{add-one}

@@ -1,5 +1,4 @@
 // The program for the desk: girthladder WORD [OPTIONS] [FILE]. What it prints is desk_answer's; here it lends memory, reads and writes.
-mod files;
 
 ghost use mathlib.Core.Path.{_≡_};
 ghost use Prim.Native.Nat.{_≤_};
@@ -83,7 +82,7 @@ fn sheet<'a>(
 {
     let o = c.operands;
     let p = o.file;
-    let got = files::input(args, p, input);
+    let got = desk_files::input(args, p, input);
     if got.failed {
         return;
     }
@@ -140,7 +139,7 @@ fn check(
 {
     let o = c.operands;
     let p = o.plan;
-    let got = files::read_file(desk_options::part(args, p), input);
+    let got = desk_files::read_file(desk_options::part(args, p), input);
     if got.failed {
         return;
     }
@@ -178,7 +177,7 @@ fn read(
 {
     let o = c.operands;
     let p = o.file;
-    let got = files::input(args, p, input);
+    let got = desk_files::input(args, p, input);
     if got.failed {
         return;
     }
@@ -248,7 +247,7 @@ fn serve(args: &[u8])
 
 fn main() {
     let mut args = [0u8; 65536];
-    let got = files::arguments(&mut args);
+    let got = desk_files::arguments(&mut args);
     if got.failed {
         console::complain(b"girthladder: the command line is longer than 65,536 bytes\n");
         return;

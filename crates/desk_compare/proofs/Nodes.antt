@@ -8,7 +8,7 @@ use native.Mathlib.Omega.{arith}
 use lib.Dec.{eqb}
 use lib.ListN.{length}
 use borrow.Author.Tests.{eq-eqb, ne-eqb}
-use Rattle.rules.specs.Base.{same, first}
+use Rattle.rules.specs.Base.{same}
 use Rattle.rules.specs.Plan.{Node, count, depthIn, titleIn, planOf}
 use Rattle.rules.specs.Standin.{standinOf, shown}
 use Rattle.rules.proofs.Lists.{length-plan, depth-plan, first-none, first-hit}

@@ -1,7 +1,7 @@
 -- A part whose ends are held to the list's end is the same part.
 use mathlib.Core.Path.{_≡_, sym, ap, _∙_}
-use mathlib.Core.List.{List, []}
-use Prim.Native.Nat.{ℕ, _-_, _≤_, min}
+use mathlib.Core.List.{List}
+use Prim.Native.Nat.{ℕ, _-_, min}
 use native.Mathlib.Decide.{decLe}
 use native.Mathlib.Omega.{arith}
 use lib.ListN.{length, take, drop, length-take, drop-of-length-le}

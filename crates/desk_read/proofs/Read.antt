@@ -16,7 +16,7 @@ use Rattle.rules.specs.Levels.{view}
 use Rattle.rules.specs.Measures.{area}
 use Rattle.rules.specs.Numbers.{badDepth, readerNumber, readerSecond}
 use Rattle.rules.specs.Ordinary.{ordinaryTitle, ordinary}
-use Rattle.rules.specs.Reader.{Found, plan, nothing, tableOf, titlesOf, ended, pictureArea, delivered, reading, Draws, Reads}
+use Rattle.rules.specs.Reader.{Found, plan, tableOf, titlesOf, ended, pictureArea, delivered, reading, Draws, Reads}
 use Rattle.rules.specs.declared.Reading.{Reading}
 use Rattle.rules.proofs.Tests.{both}
 use Rattle.levels.proofs.Tables.{length-table}

@@ -8,7 +8,7 @@ use native.Mathlib.Omega.{arith}
 use lib.Dec.{eqb}
 use lib.ListN.{length, length-append}
 use borrow.Author.Tests.{eq-eqb, ne-eqb}
-use Rattle.rules.specs.Base.{pick, concat, each}
+use Rattle.rules.specs.Base.{pick, concat}
 use Rattle.rules.specs.Utf8.{utf8}
 use Rattle.rules.specs.Lines.{letters, bytes}
 use Rattle.rules.specs.Plan.{Node}

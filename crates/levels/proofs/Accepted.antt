@@ -21,7 +21,6 @@ use Rattle.rules.proofs.Tests.{neither}
 use Rattle.rules.proofs.Firsts.{first-lacks}
 use Rattle.levels.specs.Accepted.{checked, Accepted}
 use Rattle.levels.proofs.Plans.{node-plan, depth-whole}
-use Rattle.levels.proofs.Tests.{right-title}
 
 -- the depth rule in numbers
 rule-first : (p : List Node) → depthRule p 0 ≡ true → depthAt p 0 ≡ 0
@@ -31,6 +30,13 @@ rule-first p e = eqb-true (depthAt p 0) 0 e
 rule-later : (p : List Node) (k : ℕ) → depthRule p (suc k) ≡ true → depthAt p (suc k) ≤ depthAt p k + 1
 unfolding depthRule
 rule-later p k e = leb-true (depthAt p (suc k)) (depthAt p k + 1) e
+
+-- a title that test 5 passes lies within the title bytes and is short
+pub right-title : (T B : List ℕ) (k : ℕ) → badTitle T B k ≡ false → (startIn T k + sizeIn T k ≤ length B) × (sizeIn T k ≤ 1024)
+unfolding badTitle
+right-title T B k e =
+    let b = neither (ltb (length B) (startIn T k + sizeIn T k)) (ltb 1024 (sizeIn T k)) e in
+    (ltb-false (length B) (startIn T k + sizeIn T k) (b .0), ltb-false 1024 (sizeIn T k) (b .1))
 
 module _ {T B : List ℕ} (a : Accepted T B) where
   good-depth : (k : ℕ) → k < count T → (depthRule (planOf T B) k ≡ true) × (depthAt (planOf T B) k < 32)

@@ -6,10 +6,12 @@ use Prim.Native.Nat.{ℕ, zero, suc, _+_, _*_, _≤_, _<_, max}
 use native.Mathlib.Decide.{decLe}
 use native.Mathlib.Omega.{arith}
 use lib.ListN.{length, List·getD-eq-default}
-use Rattle.rules.specs.Base.{greatest, each, total}
-use Rattle.rules.specs.Plan.{Node, count, depthIn, titleIn, planOf, nodeAt, depthAt}
+use Rattle.rules.specs.Base.{greatest, each, total, first}
+use Rattle.rules.specs.Plan.{Node, count, depthIn, titleIn, planOf, nodeAt, depthAt, depthRule}
+use Rattle.rules.specs.Numbers.{badDepth}
 use Rattle.rules.specs.Levels.{leaf, columnAt, rowsOf, columnsOf}
 use Rattle.rules.proofs.Lists.{each-at, length-plan, depth-plan, total-same}
+use Rattle.rules.proofs.Firsts.{first-same}
 
 -- node k of the table
 abbrev pub nodeIn : List ℕ → List ℕ → ℕ → Node
@@ -98,3 +100,12 @@ module _ (T B : List ℕ) where
 
   pub rows-bytes : rowsOf (planOf T B) ≡ rowsOf (planOf T [])
   rows-bytes = rows-deepest T B ∙ ap (λ n. n + 1) (deepest-bytes T B (count T)) ∙ sym (rows-deepest T [])
+
+-- nor to refusal 4
+pub depths-bytes : (T B : List ℕ) (n : ℕ) → first (badDepth (planOf T B)) n ≡ first (badDepth (planOf T [])) n
+unfolding badDepth depthRule
+depths-bytes T B n = first-same (badDepth (planOf T B)) (badDepth (planOf T [])) n (λ k h. same k)
+  where
+    same : (k : ℕ) → badDepth (planOf T B) k ≡ badDepth (planOf T []) k
+    same zero = rw (depth-bytes T B 0)
+    same (suc k) = rw (depth-bytes T B (suc k), depth-bytes T B k)

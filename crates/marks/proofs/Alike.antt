@@ -1,6 +1,5 @@
 -- Agreement of two drawings may be asked run by run and row by row: a run is split anywhere, and what agrees point by point agrees.
 use mathlib.Core.Path.{_≡_, refl, ap, sym, _∙_}
-use mathlib.Core.List.{[], _∷_, _++_}
 use mathlib.Core.Bool.{Bool, true, false, _&&_, and-assoc, and-true}
 use Prim.Native.Nat.{ℕ, suc, zero, _+_, _-_, _≤_, _<_}
 use native.Mathlib.Omega.{arith}

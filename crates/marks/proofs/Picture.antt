@@ -1,9 +1,9 @@
 -- THE PICTURE, of every plan that no refusal before the drawing meets (1 to 256 nodes, the depth rule), for every lawful measure and
 -- marks: what stands at each point of the canvas; where rows end; and that no point holds 0A.
 use mathlib.Core.Path.{_≡_, refl, ap, sym, _∙_}
-use mathlib.Core.List.{List, [], _∷_, List·Memᴰ}
-use mathlib.Core.Bool.{Bool, true, false, _&&_, _||_, false≢true}
-use mathlib.Core.Logic.{⊎-elim, _⊎_}
+use mathlib.Core.List.{List, List·Memᴰ}
+use mathlib.Core.Bool.{Bool, true, false, false≢true}
+use mathlib.Core.Logic.{⊎-elim}
 use Prim.Native.Nat.{ℕ, suc, _+_, _-_, _≤_, _<_}
 use native.Mathlib.Decide.{decLe, ℕ-discrete}
 use native.Mathlib.Omega.{arith}
@@ -12,7 +12,7 @@ use lib.Dec.{leb, ltb, eqb}
 use borrow.Author.Tests.{leb-true, ltb-true, ne-eqb, lt-leb, le-leb}
 use Rattle.marks.proofs.Facts as F
 use Rattle.rules.specs.Utf8.{valid, points}
-use Rattle.rules.specs.Lines.{digits, linesOf}
+use Rattle.rules.specs.Lines.{linesOf}
 use Rattle.rules.specs.Plan.{Node, nodeAt}
 use Rattle.rules.specs.Levels.{Cell, View, view}
 use Rattle.rules.specs.Measures.{d, linesIn, canvasWidth, canvasHeight}

@@ -6,7 +6,7 @@ use mathlib.Core.Bool.{true}
 use Prim.Native.Nat.{ℕ, suc, zero, _+_, _<_}
 use lib.Dec.{eqb}
 use lib.ListN.{length, getD}
-use Rattle.rules.specs.Base.{concat, each}
+use Rattle.rules.specs.Base.{concat}
 use Rattle.rules.specs.Lines.{linesOf}
 use Rattle.rules.specs.Plan.{Node, nodeAt}
 use Rattle.rules.specs.Levels.{Cell, View, view, inRow, inColumn}

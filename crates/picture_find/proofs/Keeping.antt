@@ -2,7 +2,7 @@
 use mathlib.Core.Path.{_≡_, ap, sym, _∙_}
 use mathlib.Core.List.{List, []}
 use mathlib.Core.Bool.{true}
-use Prim.Native.Nat.{ℕ, _*_, _-_, _≤_, _<_}
+use Prim.Native.Nat.{ℕ, _*_, _≤_, _<_}
 use native.Mathlib.Omega.{arith}
 use lib.ListN.{length, getD, take, replicate, length-take}
 use Rattle.rules.specs.Base.{every, first}
@@ -16,8 +16,7 @@ use Rattle.rules.specs.Reader.{tableOf, titlesOf}
 use Rattle.rules.proofs.Bounds.{lines-of}
 use Rattle.rules.proofs.Firsts.{first-most}
 use Rattle.rules.proofs.Candidate.{outside}
-use Rattle.levels.proofs.Plans.{count-whole, whole-count}
-use Rattle.levels.proofs.Tests.{depths-bytes}
+use Rattle.levels.proofs.Plans.{count-whole, whole-count, depths-bytes}
 use Rattle.marks.specs.Lawful.{Lawful}
 use Rattle.marks.specs.Numbers.{Pictured}
 use Rattle.picture_sight.specs.Seen.{seen}

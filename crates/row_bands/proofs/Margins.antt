@@ -1,7 +1,7 @@
 -- A row of a band or of the gap under it begins as the drawing's: the index on the row's centre, the axis, a space; and goes on in spaces.
 use mathlib.Core.Path.{_≡_, ap, sym, _∙_}
 use mathlib.Core.List.{List}
-use mathlib.Core.Bool.{false, _&&_, _||_, or-true}
+use mathlib.Core.Bool.{false, or-true}
 use Prim.Native.Nat.{ℕ, suc, _+_, _-_, _≤_, _<_}
 use native.Mathlib.Decide.{decLe, ℕ-discrete}
 use native.Mathlib.Omega.{arith}

@@ -12,7 +12,7 @@ use borrow.Author.Tests.{lt-ltb, le-ltb, ne-eqb}
 use borrow.Rule.Slice.PartMut.{putMid}
 use Rattle.rules.specs.Look.{Look, lenOf, marksOf, allowedIn, lookOf}
 use Rattle.rules.specs.Standin.{Standin, standinOf}
-use Rattle.rules.specs.Base.{pick, laid, each}
+use Rattle.rules.specs.Base.{pick, laid}
 use Rattle.rules.specs.Plan.{Node, mostCells, planOf}
 use Rattle.rules.specs.Numbers.{number}
 use Rattle.rules.specs.Levels.{view}

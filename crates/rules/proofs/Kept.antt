@@ -1,7 +1,7 @@
 -- (xiii) A drawing keeps to the bytes of its profile: space, digits, marks and 0A are among them, and so is every byte of a title
 -- that may be drawn (Everywhere.antt, with the bytes of a mark for Q). So every byte of a plain drawing is 20 to 7E or 0A.
-use mathlib.Core.Path.{_≡_, refl, sym, _∙_}
-use mathlib.Core.List.{List, [], _∷_, _++_, List·Memᴰ, List·Memᴰ·not-nil, List·Memᴰ·append-cases, List·Memᴰ·eq-of-singleton}
+use mathlib.Core.Path.{_≡_, refl, sym}
+use mathlib.Core.List.{List, [], _∷_, List·Memᴰ, List·Memᴰ·not-nil, List·Memᴰ·append-cases, List·Memᴰ·eq-of-singleton}
 use mathlib.Core.Bool.{Bool, true, false}
 use mathlib.Core.Logic.{⊎-elim}
 use Prim.Native.Nat.{ℕ, suc, zero, _+_, _≤_, _<_}

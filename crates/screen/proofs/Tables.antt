@@ -1,6 +1,6 @@
 -- A table that none of refusals 1 to 5 meets, in numbers: its plan is inside the limits, and a node's cell is measured by its title, whose bytes
 -- are not looked into. A chain of refusals that is done has passed each of them.
-use mathlib.Core.Path.{_≡_, refl, ap, _∙_}
+use mathlib.Core.Path.{_≡_, refl, ap}
 use mathlib.Core.List.{List}
 use mathlib.Core.Bool.{true, not}
 use Prim.Native.Nat.{ℕ, _+_, _*_, _%_, _≤_, _<_}
@@ -20,7 +20,7 @@ use Rattle.rules.proofs.Bounds.{Small}
 use Rattle.rules.proofs.Gates.{test-passed}
 use Rattle.rules.proofs.Firsts.{first-lacks}
 use Rattle.levels.proofs.Plans.{node-plan}
-use Rattle.levels.proofs.Tests.{right-title}
+use Rattle.levels.proofs.Accepted.{right-title}
 use Rattle.screen.specs.Fits.{nodeRefusal, refusal}
 use Rattle.screen.specs.Sizes.{Measurable}
 

@@ -14,8 +14,7 @@ use Rattle.rules.specs.Numbers.{badTitle, firstSuch}
 use Rattle.rules.specs.Answers.{done}
 use Rattle.rules.proofs.Lists.{length-plan, first-hit}
 use Rattle.rules.proofs.Firsts.{first-most, first-holds, first-before, first-same}
-use Rattle.levels.proofs.Plans.{node-plan}
-use Rattle.levels.proofs.Tests.{depths-bytes}
+use Rattle.levels.proofs.Plans.{node-plan, depths-bytes}
 use Rattle.screen.specs.declared.Fitting.{Fitting}
 use Rattle.screen.specs.Fits.{emptied, emptiedAfter, tooLarge, titlesRead, nodeRefusal, refusal, fitting}
 use Rattle.screen.proofs.Emptied.{length-emptied, node-kept, node-emptied, emptied-all}

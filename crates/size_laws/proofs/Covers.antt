@@ -1,14 +1,13 @@
 -- The rows of a band that its columns reach, from the right: each column's rows above the bend are one run that holds the band's middle, so
 -- those of all columns are, and a column further left adds the rows by which its run is longer, above and below.
 use mathlib.Core.Path.{_≡_, _∙_}
-use mathlib.Core.Bool.{_&&_, _||_}
 use Prim.Native.Nat.{ℕ, suc, _+_, _*_, _-_, _≤_, _<_, min, max}
 use native.Mathlib.Omega.{arith}
 use native.Mathlib.Decide.{decLe}
 use borrow.Author.Tests.{eq-eqb, ne-eqb}
 use Rattle.rules.specs.Base.{pick}
 use Rattle.size_laws.specs.Sums.{sum}
-use Rattle.size_laws.specs.Columns.{orElse, reach}
+use Rattle.size_laws.specs.Columns.{orElse}
 use Rattle.size_laws.proofs.Sums.{sum-same, sum-const, sum-join}
 
 pub or-none : (x y : ℕ) → x ≡ 0 → orElse x y ≡ y

@@ -2,8 +2,8 @@
 -- bytes of its rows are what is tallied of its columns.
 use mathlib.Core.Path.{_≡_, refl, ap, sym, _∙_}
 use mathlib.Core.List.{List, [], List·Memᴰ}
-use mathlib.Core.Bool.{true, false, _&&_, false≢true}
-use Prim.Native.Nat.{ℕ, _+_, _*_, _-_, _/_, _≤_, _<_, min}
+use mathlib.Core.Bool.{true, false≢true}
+use Prim.Native.Nat.{ℕ, _+_, _-_, _≤_, _<_, min}
 use native.Mathlib.Omega.{arith}
 use lib.ListN.{length, getD}
 use borrow.Author.Tests.{eq-eqb}

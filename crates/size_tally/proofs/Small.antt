@@ -1,5 +1,5 @@
 -- Products of numbers that are not large, and what a column's numbers come to: each definition by its parts, which the code has found.
-use mathlib.Core.Path.{_≡_, _∙_}
+use mathlib.Core.Path.{_≡_}
 use Prim.Native.Nat.{ℕ, _*_, _≤_, min, max}
 use native.Mathlib.Omega.{arith}
 use native.Mathlib.Nat.{mul-le-mul}

@@ -1,5 +1,4 @@
 -- A spot on a canvas that is not large: its numbers, and those of its band and column. Words for contracts, no rule.
-use mathlib.Core.Path.{_≡_}
 use Prim.Native.Nat.{ℕ, _+_, _≤_, _<_}
 use Rattle.row_shapes.specs.declared.spot.Spot.{Spot}
 use Rattle.size_laws.specs.declared.tally.Tally.{Tally}

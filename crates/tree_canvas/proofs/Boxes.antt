@@ -1,7 +1,7 @@
 -- The box of node k by its numbers is the rules' box of its cell, or nothing where it has none; and its numbers fit.
 -- A node has no cell exactly when its title is empty, which is when no lines are counted.
 use mathlib.Core.Path.{_≡_, ap, sym, _∙_}
-use mathlib.Core.List.{List, [], _∷_, _++_, append-nil}
+use mathlib.Core.List.{List, [], _++_, append-nil}
 use mathlib.Core.Bool.{Bool, true, false}
 use Prim.Native.Nat.{ℕ, _+_, _*_, _-_, _/_, _≤_, _<_, _^_}
 use native.Mathlib.Omega.{arith}

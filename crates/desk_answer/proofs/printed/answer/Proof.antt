@@ -1,6 +1,6 @@
 -- What is wrong is told; else what is asked for is answered.
-use mathlib.Core.Path.{_≡_, refl, sym, ap, _∙_}
-use mathlib.Core.Bool.{true, false, false≢true}
+use mathlib.Core.Path.{refl, sym, ap, _∙_}
+use mathlib.Core.Bool.{true, false≢true}
 use native.Mathlib.Omega.{arith}
 use lib.ListN.{length}
 use Rattle.desk_page.specs.Pages.{onErr}

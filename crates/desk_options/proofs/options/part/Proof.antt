@@ -1,5 +1,4 @@
 -- Places past the end are the end, as in the rules' slice.
-use mathlib.Core.Path.{_∙_}
 use Rattle.desk_options.proofs.Parts.{clamped}
 use borrow.Author.Needs.{needs}
 use Rattle.desk_options.proofs.options.part.Statement.{statement}

@@ -1,5 +1,5 @@
 -- The trailer's numbers tell where the table and the titles are, and both have room.
-use mathlib.Core.Path.{sym, _∙_}
+use mathlib.Core.Path.{sym}
 use native.Mathlib.Omega.{arith}
 use lib.Seq.{length-take-le}
 use Rattle.file_words.proofs.Files.{whole-form}

@@ -1,5 +1,4 @@
 -- What the reader answers.
-use mathlib.Core.Path.{_∙_}
 use Rattle.desk_plan.proofs.Read.{graph-few, graph-loads}
 use borrow.Author.Needs.{needs}
 use Rattle.desk_plan.proofs.forms.from_graph.Statement.{statement}

@@ -1,5 +1,4 @@
 -- What the importer answers.
-use mathlib.Core.Path.{_∙_}
 use Rattle.desk_plan.proofs.Read.{import-few, import-loads}
 use borrow.Author.Needs.{needs}
 use Rattle.desk_plan.proofs.forms.from_json.Statement.{statement}

@@ -1,9 +1,8 @@
 -- Five bytes at least, and the first five are the word.
-use mathlib.Core.Path.{sym, _∙_}
+use mathlib.Core.Path.{sym}
 use borrow.Author.Tests.{lt-leb, le-leb}
 use lib.ListN.{length}
 use lib.Seq.{length-take-le}
-use mathlib.Core.Bool.{_&&_}
 use Rattle.rules.specs.Base.{pick, concat}
 use Rattle.rules.specs.Utf8.{utf8}
 use Rattle.rules.specs.Lines.{letters, bytes}

@@ -7,7 +7,7 @@ use borrow.Author.Count.{below-more}
 use Rattle.rules.specs.Plan.{planOf}
 use Rattle.rules.proofs.Lists.{first-none, first-hit}
 use Rattle.levels.specs.Accepted.{fineBytes, badBytes}
-use Rattle.levels.proofs.Tests.{wrong-bytes}
+use Rattle.refusals.proofs.Tests.{wrong-bytes}
 use borrow.Author.Needs.{needs}
 use Rattle.refusals.proofs.refuse.bad_bytes.Statement.{statement}
 use Rattle.refusals.proofs.refuse.bad_bytes.Tie as tie

@@ -2,7 +2,7 @@
 use mathlib.Core.Bool.{false≢true}
 use mathlib.Core.Logic.{⊎-elim}
 use Rattle.rules.specs.Plan.{count}
-use Rattle.levels.proofs.Tests.{stops-ragged, stops-many, stops-empty, stops-later}
+use Rattle.refusals.proofs.Tests.{stops-ragged, stops-many, stops-empty, stops-later}
 use native.Mathlib.Omega.{arith}
 use mathlib.Core.Path.{refl, sym, _∙_}
 use Rattle.refusals.proofs.refuse.first_refusal.Statement.{statement}

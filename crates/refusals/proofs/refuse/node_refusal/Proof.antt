@@ -3,7 +3,8 @@ use native.Mathlib.Omega.{arith}
 use Rattle.rules.specs.Numbers.{badTitle}
 use Rattle.rules.specs.declared.Answer.{Answer}
 use Rattle.rules.proofs.Firsts.{first-before}
-use Rattle.levels.proofs.Tests.{right-title, stops-depth, stops-title, stops-utf8, stops-none}
+use Rattle.levels.proofs.Accepted.{right-title}
+use Rattle.refusals.proofs.Tests.{stops-depth, stops-title, stops-utf8, stops-none}
 use borrow.Author.Needs.{needs}
 use Rattle.refusals.proofs.refuse.node_refusal.Statement.{statement}
 use Rattle.refusals.proofs.refuse.node_refusal.Tie as tie

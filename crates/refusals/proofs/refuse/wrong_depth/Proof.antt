@@ -1,7 +1,7 @@
 -- Each return is one comparison of the depth rule.
 use mathlib.Core.Path.{sym}
 use Rattle.rules.specs.Plan.{depthIn}
-use Rattle.levels.proofs.Tests.{wrong-first, right-root, wrong-deep, wrong-step}
+use Rattle.refusals.proofs.Tests.{wrong-first, right-root, wrong-deep, wrong-step}
 use borrow.Author.Needs.{needs}
 use Rattle.refusals.proofs.refuse.wrong_depth.Statement.{statement}
 use Rattle.refusals.proofs.refuse.wrong_depth.Tie as tie

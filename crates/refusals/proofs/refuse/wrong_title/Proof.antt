@@ -1,7 +1,7 @@
 -- Each return is one comparison; the last subtracts, so no sum can wrap.
 use mathlib.Core.Path.{sym}
 use Rattle.rules.specs.Plan.{startIn, sizeIn}
-use Rattle.levels.proofs.Tests.{wrong-long, wrong-start, wrong-room}
+use Rattle.refusals.proofs.Tests.{wrong-long, wrong-start, wrong-room}
 use borrow.Author.Needs.{needs}
 use Rattle.refusals.proofs.refuse.wrong_title.Statement.{statement}
 use Rattle.refusals.proofs.refuse.wrong_title.Tie as tie

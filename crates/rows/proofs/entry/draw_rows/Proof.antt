@@ -1,5 +1,5 @@
 -- The refusals that have to do with the plan and the stand-in come first and leave all as it was; what passes them is drawn.
-use mathlib.Core.Path.{_≡_, sym, _∙_}
+use mathlib.Core.Path.{sym, _∙_}
 use mathlib.Core.Bool.{true}
 use Rattle.rules.specs.Standin.{standinOf}
 use Rattle.refusals.proofs.Refused.{said, all-showable, all-some}

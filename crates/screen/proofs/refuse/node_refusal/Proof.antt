@@ -2,7 +2,7 @@
 use borrow.Author.Tests.{lt-ltb, le-ltb}
 use Rattle.rules.specs.Base.{pick}
 use Rattle.rules.specs.Numbers.{firstSuch}
-use Rattle.levels.proofs.Tests.{depths-bytes}
+use Rattle.levels.proofs.Plans.{depths-bytes}
 use Rattle.screen.specs.Fits.{nodeRefusal}
 use borrow.Author.Needs.{needs}
 use Rattle.screen.proofs.refuse.node_refusal.Statement.{statement}

@@ -1,5 +1,4 @@
 -- The parts are the definition's.
-use mathlib.Core.Path.{_∙_}
 use native.Mathlib.Omega.{arith}
 use Rattle.size_laws.specs.Columns.{boxMarks}
 use borrow.Author.Needs.{needs}

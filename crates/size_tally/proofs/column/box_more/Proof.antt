@@ -1,5 +1,4 @@
 -- The marks of a cell, if there is one, and its letters.
-use mathlib.Core.Path.{_∙_}
 use native.Mathlib.Omega.{arith}
 use Rattle.rules.specs.Base.{pick}
 use borrow.Author.Needs.{needs}

@@ -1,5 +1,4 @@
 -- The marks of the gap, if the band has one.
-use mathlib.Core.Path.{_∙_}
 use native.Mathlib.Omega.{arith}
 use Rattle.rules.specs.Base.{pick}
 use borrow.Author.Tests.{lt-ltb, le-ltb}

@@ -1,5 +1,4 @@
 -- The ends above and below are added.
-use mathlib.Core.Path.{_∙_}
 use native.Mathlib.Omega.{arith}
 use Rattle.size_laws.specs.Columns.{reach}
 use Rattle.size_tally.proofs.Small.{least-few, most-few}

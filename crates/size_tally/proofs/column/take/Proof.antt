@@ -1,5 +1,4 @@
 -- Each part of the tally is the definition's.
-use mathlib.Core.Path.{_∙_}
 use native.Mathlib.Omega.{arith}
 use Rattle.size_laws.specs.Columns.{taken, fieldMore}
 use borrow.Author.Needs.{needs}

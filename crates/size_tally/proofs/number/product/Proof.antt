@@ -1,6 +1,5 @@
 -- 2 ^ 24 times itself is 2 ^ 48.
 use native.Mathlib.Omega.{arith}
-use mathlib.Core.Path.{_∙_}
 use Rattle.size_tally.proofs.Small.{small}
 use borrow.Author.Needs.{needs}
 use Rattle.size_tally.proofs.number.product.Statement.{statement}

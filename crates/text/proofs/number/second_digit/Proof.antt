@@ -1,6 +1,6 @@
 -- The second of two digits is the last, and the second of three the last of the tenth.
 use mathlib.Core.Path.{ap, sym, _∙_}
-use Prim.Native.Nat.{_+_, _/_}
+use Prim.Native.Nat.{_/_}
 use native.Mathlib.Omega.{arith}
 use lib.ListN.{length}
 use Rattle.rules.proofs.Digits.{digits-one, length-more, last-digit, earlier-digit}

@@ -1,5 +1,4 @@
 -- Each part is read off.
-use mathlib.Core.Path.{_∙_}
 use borrow.Author.Needs.{needs}
 use Rattle.text_size.proofs.across.joint_at.Statement.{statement}
 use Rattle.text_size.proofs.across.joint_at.Tie as tie

@@ -1,6 +1,5 @@
 -- A column with nothing in it adds nothing; else its spot is taken.
 use native.Mathlib.Omega.{arith}
-use mathlib.Core.Path.{_≡_, _∙_}
 use Rattle.text_size.proofs.Seen.{none-taken, none-there}
 use Rattle.row_shapes.specs.Plain.{plain}
 use Rattle.text_size.specs.Across.{spotAt}

@@ -1,6 +1,5 @@
 -- Each turn takes one column more, from the right.
 use native.Mathlib.Omega.{arith}
-use mathlib.Core.Path.{_≡_, _∙_}
 use Prim.Native.Nat.{_-_}
 use Rattle.levels.specs.Shown.{planShown}
 use Rattle.text_size.specs.Across.{rowAt}

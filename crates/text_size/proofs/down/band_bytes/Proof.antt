@@ -1,6 +1,5 @@
 -- The sum is the definition's.
 use native.Mathlib.Omega.{arith}
-use mathlib.Core.Path.{_≡_, _∙_}
 use Rattle.size_laws.specs.Columns.{bandSize}
 use Rattle.text_size.proofs.Tallied.{all-few}
 use borrow.Author.Needs.{needs}

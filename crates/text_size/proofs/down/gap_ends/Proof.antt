@@ -1,6 +1,5 @@
 -- The two ends, if there is a gap.
 use native.Mathlib.Omega.{arith}
-use mathlib.Core.Path.{_≡_, _∙_}
 use Rattle.rules.specs.Base.{pick}
 use borrow.Author.Tests.{lt-ltb, le-ltb}
 use borrow.Author.Needs.{needs}

@@ -1,6 +1,5 @@
 -- What is tallied is the sum's.
 use native.Mathlib.Omega.{arith}
-use mathlib.Core.Path.{_≡_, _∙_}
 use Rattle.text_size.proofs.Columns.{row-ends, sizes, margin-is, even-few}
 use Rattle.text_size.proofs.Tallied.{in-band}
 use borrow.Author.Needs.{needs}

@@ -1,6 +1,5 @@
 -- Of valid bytes each letter has one that begins it, so the others are left.
 use native.Mathlib.Omega.{arith}
-use mathlib.Core.Path.{_≡_, _∙_}
 use Rattle.rules.specs.Base.{pick}
 use Prim.Native.Nat.{_-_}
 use borrow.Author.Tests.{eq-eqb}

@@ -1,6 +1,6 @@
 -- Each turn adds one band, and the arrays hold the cells of the row above the next and of the next.
 use native.Mathlib.Omega.{arith}
-use mathlib.Core.Path.{_≡_, refl, _∙_}
+use mathlib.Core.Path.{_≡_, refl}
 use Prim.Native.Nat.{_+_, _-_}
 use Rattle.rules.specs.Levels.{view}
 use Rattle.rules.specs.Look.{lenOf, marksIn}

@@ -1,6 +1,6 @@
 -- Three rows, each as long as it is said to be.
 use native.Mathlib.Omega.{arith}
-use mathlib.Core.Path.{_≡_, _∙_}
+use mathlib.Core.Path.{_≡_}
 use Prim.Native.Nat.{_-_, _+_, _≤_}
 use Rattle.rules.proofs.Digits.{digits-few}
 use borrow.Author.Needs.{needs}

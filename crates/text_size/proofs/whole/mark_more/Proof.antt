@@ -1,6 +1,5 @@
 -- One to four bytes, less one.
 use native.Mathlib.Omega.{arith}
-use mathlib.Core.Path.{_≡_, _∙_}
 use Rattle.rules.proofs.Codec.{utf8-size}
 use Rattle.size_laws.specs.Sums.{extra}
 use borrow.Author.Needs.{needs}

@@ -1,5 +1,4 @@
 -- The band is the row's.
-use mathlib.Core.Path.{_≡_, _∙_}
 use borrow.Author.Needs.{needs}
 use Rattle.text_size.proofs.whole.place_of.Statement.{statement}
 use Rattle.text_size.proofs.whole.place_of.Tie as tie

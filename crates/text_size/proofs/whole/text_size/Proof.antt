@@ -1,6 +1,5 @@
 -- The rows above the bands, and the bands.
 use native.Mathlib.Omega.{arith}
-use mathlib.Core.Path.{_≡_, _∙_}
 use Rattle.text_size.proofs.Summed.{heads-ask, sides-ask, whole, all-few}
 use borrow.Author.Needs.{needs}
 use Rattle.text_size.proofs.whole.text_size.Statement.{statement}

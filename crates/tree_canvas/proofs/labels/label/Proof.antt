@@ -1,5 +1,5 @@
 -- A node without lines has no cell, and nothing is drawn; else the label is its cell's box.
-use mathlib.Core.Path.{_≡_, ap, sym, _∙_}
+use mathlib.Core.Path.{ap, sym, _∙_}
 use Prim.Native.Nat.{ℕ}
 use native.Mathlib.Omega.{arith}
 use lib.ListN.{getD}

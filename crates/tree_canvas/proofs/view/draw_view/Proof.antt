@@ -1,5 +1,4 @@
 -- Three drawers in a row: the outside, the boxes, the connectors; together they are the rules' strokes.
-use mathlib.Core.Path.{_≡_}
 use native.Mathlib.Omega.{arith}
 use Rattle.rules.specs.Look.{marksIn}
 use Rattle.text.proofs.Counted.{len-most}

@@ -1,5 +1,4 @@
 -- The last row is read at count - 1.
-use Prim.Native.Nat.{_-_}
 use borrow.Author.Needs.{needs}
 use Rattle.tree_view.proofs.heights.canvas_height.Statement.{statement}
 use Rattle.tree_view.proofs.heights.canvas_height.Tie as tie

@@ -1,6 +1,5 @@
 -- The product of two numbers below 2 ^ 32 is below 2 ^ 64.
 use native.Mathlib.Nat.{mul-le-mul}
-use Prim.Native.Nat.{_-_}
 use native.Mathlib.Omega.{arith}
 use borrow.Author.Needs.{needs}
 use Rattle.tree_view.proofs.size.area.Statement.{statement}

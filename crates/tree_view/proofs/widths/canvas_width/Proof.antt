@@ -1,5 +1,4 @@
 -- The last column is read at count - 1.
-use Prim.Native.Nat.{_-_}
 use native.Mathlib.Omega.{arith}
 use borrow.Author.Needs.{needs}
 use Rattle.tree_view.proofs.widths.canvas_width.Statement.{statement}

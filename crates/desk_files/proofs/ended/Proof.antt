@@ -4,8 +4,8 @@ use native.Mathlib.Omega.{arith}
 use lib.ListN.{set, length-set}
 use Rattle.io.proofs.Counting.{counts}
 use borrow.Author.Needs.{needs}
-use Rattle.desk.proofs.files.ended.Statement.{statement}
-use Rattle.desk.proofs.files.ended.Tie as tie
+use Rattle.desk_files.proofs.ended.Statement.{statement}
+use Rattle.desk_files.proofs.ended.Tie as tie
 
 returns : tie.Need-returns
 returns c = search needs

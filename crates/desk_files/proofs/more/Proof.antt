@@ -3,8 +3,8 @@ use mathlib.Core.Path.{_≡_}
 use Prim.Native.Nat.{_*_, _-_, _≤_}
 use lib.ListN.{length}
 use borrow.Author.Needs.{needs}
-use Rattle.desk.proofs.files.more.Statement.{statement}
-use Rattle.desk.proofs.files.more.Tie as tie
+use Rattle.desk_files.proofs.more.Statement.{statement}
+use Rattle.desk_files.proofs.more.Tie as tie
 
 abbrev Inv-loop : tie.InvT-loop
 Inv-loop fd buf₀ all₀ i₀ buf all i = (i ≤ 1024) × (all ≤ i * 1048577) × (length buf ≡ length buf₀)

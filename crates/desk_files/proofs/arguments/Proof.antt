@@ -4,8 +4,8 @@ use Prim.Native.Nat.{_-_, _≤_}
 use lib.ListN.{length}
 use Rattle.io.proofs.Counting.{counts}
 use borrow.Author.Needs.{needs}
-use Rattle.desk.proofs.files.arguments.Statement.{statement}
-use Rattle.desk.proofs.files.arguments.Tie as tie
+use Rattle.desk_files.proofs.arguments.Statement.{statement}
+use Rattle.desk_files.proofs.arguments.Tie as tie
 
 abbrev Inv-loop : tie.InvT-loop
 Inv-loop args₀ count at₀ i₀ args at i = (at ≤ length args₀) × (length args ≡ length args₀)

@@ -1,4 +1,4 @@
-// The arguments of the program, and its inputs: what is wrong with them is told here.
+// The arguments of the program for the desk, and its inputs: what is wrong with them is told here.
 ghost use mathlib.Core.Path.{_≡_};
 ghost use Prim.Native.Nat.{_≤_};
 ghost use lib.ListN.{length};

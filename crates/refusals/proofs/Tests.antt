@@ -1,4 +1,4 @@
--- The tests of refusals 4 to 6 as the code makes them, one comparison at a time, on plain numbers.
+-- The tests of refusals 1 to 6 as the code makes them, one comparison at a time, on plain numbers; and what the first that is met answers.
 use mathlib.Core.Path.{_≡_, refl, ap, _∙_}
 use mathlib.Core.List.{List, []}
 use mathlib.Core.Bool.{Bool, true, false, not, _&&_, _||_}
@@ -7,16 +7,13 @@ use native.Mathlib.Decide.{decLe}
 use native.Mathlib.Omega.{arith}
 use lib.Dec.{leb, ltb, eqb}
 use lib.ListN.{length, getD}
-use borrow.Author.Tests.{lt-ltb, le-ltb, le-leb, lt-leb, eq-eqb, ne-eqb, ltb-false}
+use borrow.Author.Tests.{lt-ltb, le-ltb, le-leb, lt-leb, eq-eqb, ne-eqb}
 use Rattle.rules.specs.Plan.{Node, count, depthIn, startIn, sizeIn, titleIn, planOf, depthAt, depthRule}
 use Rattle.rules.specs.Base.{pick, first}
 use Rattle.rules.specs.Numbers.{ragged, many, noNode, badDepth, badTitle, badUtf8, firstSuch, afterCount, afterNodes}
 use Rattle.rules.specs.declared.Answer.{Answer}
-use Rattle.rules.proofs.Firsts.{first-same}
 use Rattle.levels.specs.Accepted.{checked, fineBytes, badBytes}
-use Rattle.levels.proofs.Plans.{node-plan, depth-whole, depth-bytes}
-use Rattle.rules.proofs.Tests.{neither}
-pub use Rattle.rules.proofs.Tests.{both as and-true}
+use Rattle.levels.proofs.Plans.{node-plan, depth-whole, depths-bytes}
 
 -- either test holds whatever the first is, if the second does
 or-right : (a b : Bool) → b ≡ true → (a || b) ≡ true
@@ -89,13 +86,6 @@ module _ (T B : List ℕ) (k : ℕ) where
         | no s ↦ rw (le-ltb (length B) (startIn T k + sizeIn T k) (omega arith), le-ltb (length B - startIn T k) (sizeIn T k) (omega arith))
       ])
 
-  -- and a title that is not so lies within the title bytes and is short
-  pub right-title : badTitle T B k ≡ false → (startIn T k + sizeIn T k ≤ length B) × (sizeIn T k ≤ 1024)
-  unfolding badTitle
-  right-title e =
-      let b = neither (ltb (length B) (startIn T k + sizeIn T k)) (ltb 1024 (sizeIn T k)) e in
-      (ltb-false (length B) (startIn T k + sizeIn T k) (b .0), ltb-false 1024 (sizeIn T k) (b .1))
-
 -- 6 UTF8 and 17 PLAIN are asked of the title that lies in the title bytes
 pub wrong-bytes : (plain : Bool) (T B : List ℕ) (k : ℕ) → k < count T → badBytes plain (planOf T B) k ≡ not (fineBytes plain (titleIn T B k))
 unfolding badBytes
@@ -104,15 +94,6 @@ wrong-bytes plain T B k h = ap (λ (n : Node). not (fineBytes plain (n .title)))
 first-utf8 : (p : List Node) (n : ℕ) → first (badUtf8 p) n ≡ first (badBytes false p) n
 unfolding badUtf8 badBytes
 first-utf8 p n = refl
-
--- refusal 4 goes by the table alone
-pub depths-bytes : (T B : List ℕ) (n : ℕ) → first (badDepth (planOf T B)) n ≡ first (badDepth (planOf T [])) n
-unfolding badDepth depthRule
-depths-bytes T B n = first-same (badDepth (planOf T B)) (badDepth (planOf T [])) n (λ k h. same k)
-  where
-    same : (k : ℕ) → badDepth (planOf T B) k ≡ badDepth (planOf T []) k
-    same zero = rw (depth-bytes T B 0)
-    same (suc k) = rw (depth-bytes T B (suc k), depth-bytes T B k)
 
 -- refusals 4 to 6 of n nodes one after another: the first that finds a node is the answer
 module _ (T B : List ℕ) (next : Answer) (n : ℕ) (en : n ≡ count T) where
