@@ -6,9 +6,9 @@ ghost use Rattle.rules.specs.Standin.{shown};
 ghost use Rattle.levels.specs.Shown.{Fine};
 ghost use Rattle.levels.specs.Given.{is_given};
 
-use crate::Plan;
+use crate::{Plan, titles};
 
-/// A plan that no refusal meets, and the text that is shown where a title is empty, if one is given. `refusals::shown` makes it.
+/// A plan that no refusal meets, and the text that is shown where a title is empty, if one is given. `refusals::shown_plan` makes it.
 #[derive(Clone, Copy)]
 pub struct ShownPlan<'a> {
     pub plan: Plan<'a>,
@@ -30,15 +30,15 @@ impl<'a> ShownPlan<'a> {
     }
 
     /// The title that is shown of node k: its own, or the stand-in, if one is given, where that is empty.
-    #[tactic(auto, using(rules::proofs::Replaced::stand_in_shown, rules::proofs::Replaced::own_shown, rules::proofs::Replaced::none_shown))]
     pub fn title(&self, k: usize) -> &'a [u8]
         requires { k < count self.now.plan.table.now }
         ensures { result.now ≡ shown (standin_in self.now) (title_in self.now.plan.table.now self.now.plan.titles.now k) }
     {
-        let own = self.plan.title(k);
         match self.standin {
-            Some(standin) if own.is_empty() => standin,
-            _ => own,
+            Some(standin) => {
+                titles::shown_title(self.plan.table, k, self.plan.titles, true, standin)
+            }
+            None => titles::shown_title(self.plan.table, k, self.plan.titles, false, &[]),
         }
     }
 }

@@ -6,7 +6,7 @@ ghost use Rattle.levels.specs.Accepted.{Accepted};
 use crate::titles;
 
 /// The table of a plan, three numbers for each node (its depth, and where its title begins and how many bytes it has), and the bytes of the titles:
-/// refusals 1 to 6 meet none of it. `refusals::accepted` makes it.
+/// refusals 1 to 6 meet none of it. `refusals::shown_plan` makes it, within the plan that is shown.
 #[derive(Clone, Copy)]
 pub struct Plan<'a> {
     pub table: &'a [u32],
